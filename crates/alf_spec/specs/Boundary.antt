@@ -1,0 +1,106 @@
+-- 8.8.5.5, ALF boundary position derivation: the sides of a CTB across which filtering is disabled (01: closed), and the clip positions
+-- (01: edges) of a sample. Assumes nothing.
+use mathlib.Core.Bool.{Bool, true, false, not, _&&_, _||_}
+use mathlib.Core.List.{List, [], _∷_}
+use mathlib.Core.Option.{Option, some, none}
+use Prim.Native.Nat.{ℕ, _+_, _-_, _/_}
+use lib.Dec.{eqb, leb, ltb}
+use lib.ListN.{getD}
+use Rattle.alf_spec.specs.Input.{Layout}
+use Rattle.alf_spec.specs.Geometry.{Side, before, after, next, hasNext, Axis, ctbStart, inCtb, Ctb, ctbColumns, ctbRows, address}
+
+-- ---- sides
+
+module _ (l : Layout) (c : Ctb) where
+  unfoldable pub sliceOf : ℕ
+  sliceOf = getD (l .sliceMap) (address l c) 0
+
+  unfoldable pub subpicOf : ℕ
+  subpicOf = getD (l .subpicMap) (address l c) 0
+
+  unfoldable pub tileColumnOf : ℕ
+  tileColumnOf = getD (l .tileColumns) (c .column) 0
+
+  unfoldable pub tileRowOf : ℕ
+  tileRowOf = getD (l .tileRows) (c .row) 0
+
+-- the CTB n lies in another tile, slice or subpicture than c and, respectively, the tile switch, the slice switch or c's own subpicture
+-- switch is off
+module _ (l : Layout) (c n : Ctb) where
+  unfoldable pub tileCloses : Bool
+  tileCloses = not (eqb (tileColumnOf l c) (tileColumnOf l n) && eqb (tileRowOf l c) (tileRowOf l n)) && not (l .picture .«across_tiles»)
+
+  unfoldable pub sliceCloses : Bool
+  sliceCloses = not (eqb (sliceOf l c) (sliceOf l n)) && not (l .picture .«across_slices»)
+
+  unfoldable pub subpicCloses : Bool
+  subpicCloses = not (eqb (subpicOf l c) (subpicOf l n)) && eqb (getD (l .subpicAcross) (subpicOf l c) 0) 0
+
+  abbrev pub closes : Bool
+  closes = tileCloses || (sliceCloses || subpicCloses)
+
+-- the CTBs next to c along its row, along its column, and up-left or down-right of it
+abbrev pub besideCtb : Side → Ctb → Ctb
+besideCtb d c = record { column = next d (c .column); row = c .row }
+
+abbrev pub stackedCtb : Side → Ctb → Ctb
+stackedCtb d c = record { column = c .column; row = next d (c .row) }
+
+abbrev pub diagonalCtb : Side → Ctb → Ctb
+diagonalCtb d c = record { column = next d (c .column); row = next d (c .row) }
+
+-- filtering across the left or right side of a CTB, its top or bottom, and its upper left or lower right corner is disabled
+-- (clipTopLeftFlag, clipBotRightFlag); at the picture's rim there is no CTB across
+unfoldable pub columnSide : Layout → Ctb → Side → Bool
+columnSide l c d = hasNext (ctbColumns l) d (c .column) && closes l c (besideCtb d c)
+
+unfoldable pub rowSide : Layout → Ctb → Side → Bool
+rowSide l c d = hasNext (ctbRows l) d (c .row) && closes l c (stackedCtb d c)
+
+unfoldable pub corner : Layout → Ctb → Side → Bool
+corner l c d = hasNext (ctbColumns l) d (c .column) && (hasNext (ctbRows l) d (c .row) && sliceCloses l c (diagonalCtb d c))
+
+-- ---- clip positions
+
+abbrev pub only : Bool → ℕ → Option ℕ
+only true e = some e
+only false e = none
+
+infixr 2 _orElse_
+abbrev pub _orElse_ : Option ℕ → Option ℕ → Option ℕ
+_orElse_ (some e) o = some e
+_orElse_ none o = o
+
+unfoldable pub find : (ℕ → Bool) → List ℕ → Option ℕ
+find test [] = none
+find test (v ∷ vs) = only (test v) v orElse find test vs
+
+-- v lies 0 to 2 before x or at it; v lies 1 to 4 after x
+abbrev pub near : Side → ℕ → ℕ → Bool
+near before x v = leb v x && leb (x - v) 2
+near after x v = ltb x v && leb (v - x) 4
+
+-- the rules, in 01's words, at the position x along an axis; `closed` says which sides of its CTB are
+module _ (a : Axis) (x : ℕ) where
+  -- the line lies 4 luma rows above the CTB's bottom
+  abbrev pub linePosition : ℕ
+  linePosition = ctbStart a x + (a .ctb - 4)
+
+  -- the line if y ≥ S − 4; the line if it is 1 to 4 below
+  unfoldable pub lineRuleAt : Side → Option ℕ
+  lineRuleAt before = only (a .hasLine && leb (a .ctb - 4) (inCtb a x)) linePosition
+  lineRuleAt after = only (a .hasLine && near after x linePosition) linePosition
+
+  -- (1511) to (1514): a virtual row 0 to 2 rows above or at the sample; a virtual row 1 to 4 below
+  unfoldable pub virtualRuleAt : Side → Option ℕ
+  virtualRuleAt d = find (near d x) (a .virtualBoundaries)
+
+  -- the CTB top if y < 3 and that side is closed; the CTB bottom if S − y < 5 and that side is closed
+  unfoldable pub sideRuleAt : (Side → Bool) → Side → Option ℕ
+  sideRuleAt closed before = only (ltb (inCtb a x) 3 && closed before) (ctbStart a x)
+  sideRuleAt closed after = only (ltb (a .ctb - inCtb a x) 5 && closed after) (ctbStart a x + a .ctb)
+
+  -- clipTopPos or clipLeftPos, clipBottomPos or clipRightPos, where there is one
+  unfoldable pub clipPosition : (Side → Bool) → Side → Option ℕ
+  clipPosition closed before = lineRuleAt before orElse virtualRuleAt before orElse sideRuleAt closed before
+  clipPosition closed after = virtualRuleAt after orElse lineRuleAt after orElse sideRuleAt closed after

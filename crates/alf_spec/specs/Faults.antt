@@ -1,0 +1,249 @@
+-- When an input is rejected (01: When a frame is turned away): a test for each cause, true where the cause does not apply, and the lowest
+-- number of a cause that does. Assumes nothing.
+use mathlib.Core.Bool.{Bool, true, false, not, _&&_, _||_, cond}
+use mathlib.Core.List.{List}
+use Prim.Native.Nat.{ℕ, _+_, _-_, _*_, _/_, _%_, _^_}
+use lib.IntN.{ℤ, pos, negsuc}
+use lib.Signed.{leZ}
+use lib.Dec.{eqb, leb, ltb}
+use lib.ListN.{length, getD}
+use Rattle.alf_spec.specs.declared.Picture.{Picture}
+use Rattle.alf_spec.specs.Lists.{within, implies, allBelow, everyFrom, every}
+use Rattle.alf_spec.specs.Input.{Layout, Operation, classes, luma, chroma, crossComponent, Input}
+use Rattle.alf_spec.specs.Geometry.{ctbSize, lumaPlane, chromaPlane, planeLength, ctbColumns, ctbRows, Ctb}
+use Rattle.alf_spec.specs.Parameters.{ctbParam, lumaSet, chromaAlternative, crossIndex, lumaApsCount}
+use Rattle.alf_spec.specs.Process.{classTotal}
+
+-- ---- 1 width or height, 2 CTB exponent, 3 bit depth, 4 chroma format and component
+
+-- a multiple of 8 from 8 to 4,096
+abbrev pub sizeValid : ℕ → Bool
+sizeValid n = eqb (n % 8) 0 && within 8 4096 n
+
+unfoldable pub pictureSizeValid : Picture → Bool
+pictureSizeValid p = sizeValid (p .width) && sizeValid (p .height)
+
+unfoldable pub ctbSizeValid : Picture → Bool
+ctbSizeValid p = within 5 7 (p .«ctb_log2»)
+
+unfoldable pub bitDepthValid : Picture → Bool
+bitDepthValid p = within 8 12 (p .«bit_depth»)
+
+unfoldable pub chromaFormatValid : Picture → Bool
+chromaFormatValid p = leb (p .«chroma_format») 1
+
+-- chroma work wants a format with chroma, and component 0 or 1
+unfoldable pub componentValid : Operation → Picture → Bool
+componentValid classes p = true
+componentValid luma p = true
+componentValid (chroma component) p = not (eqb (p .«chroma_format») 0) && leb component 1
+componentValid (crossComponent component) p = not (eqb (p .«chroma_format») 0) && leb component 1
+
+-- ---- 5 lengths
+
+abbrev pub ctbTotal : Layout → ℕ
+ctbTotal l = ctbColumns l * ctbRows l
+
+unfoldable pub layoutLengthsValid : Layout → Bool
+layoutLengthsValid l =
+    within 1 256 (l .picture .«slice_count»)
+    && (eqb (length (l .tileColumns)) (ctbColumns l) && (eqb (length (l .tileRows)) (ctbRows l)
+    && (eqb (length (l .sliceMap)) (ctbTotal l) && (eqb (length (l .subpicMap)) (ctbTotal l)
+    && eqb (length (l .subpicAcross)) 64))))
+
+unfoldable pub filterLengthsValid : Input → Bool
+filterLengthsValid i =
+    eqb (length (i .sliceParams)) (11 * i .layout .picture .«slice_count»)
+    && (eqb (length (i .bank)) (8 * 752) && eqb (length (i .ctbParams)) (8 * ctbTotal (i .layout)))
+
+unfoldable pub fixedLengthsValid : Input → Bool
+fixedLengthsValid i = eqb (length (i .fixedFilters)) (64 * 12) && eqb (length (i .fixedMap)) (16 * 25)
+
+abbrev pub lumaLength : Input → ℕ
+lumaLength i = planeLength (lumaPlane (i .layout))
+
+abbrev pub chromaLength : Input → ℕ
+chromaLength i = planeLength (chromaPlane (i .layout))
+
+-- of what the operation is given beside the layout, and of its output
+unfoldable pub lengthsValid : Operation → Input → Bool
+lengthsValid classes i = eqb (length (i .luma)) (lumaLength i) && eqb (i .outputLength) (classTotal (i .layout))
+lengthsValid luma i =
+    filterLengthsValid i && (fixedLengthsValid i && (eqb (length (i .luma)) (lumaLength i) && eqb (i .outputLength) (lumaLength i)))
+lengthsValid (chroma component) i =
+    filterLengthsValid i && (eqb (length (i .chroma)) (chromaLength i) && eqb (i .outputLength) (chromaLength i))
+lengthsValid (crossComponent component) i =
+    filterLengthsValid i && (eqb (length (i .luma)) (lumaLength i)
+    && (eqb (length (i .chroma)) (chromaLength i) && eqb (i .outputLength) (chromaLength i)))
+
+-- ---- 6 virtual boundaries: at most 3, each a multiple of 8 from 8 to the size less 8, rising, at least S apart
+
+abbrev pub virtualPositionValid : ℕ → ℕ → Bool
+virtualPositionValid size v = eqb (v % 8) 0 && (leb 8 v && leb (v + 8) size)
+
+unfoldable pub apartAt : ℕ → List ℕ → ℕ → Bool
+apartAt s list k = leb (getD list k 0 + s) (getD list (k + 1) 0)
+
+unfoldable pub virtualListValid : ℕ → ℕ → List ℕ → Bool
+virtualListValid size s list = leb (length list) 3 && (every (virtualPositionValid size) list && allBelow (length list - 1) (apartAt s list))
+
+unfoldable pub virtualBoundariesValid : Layout → Bool
+virtualBoundariesValid l =
+    virtualListValid (l .picture .width) (ctbSize (l .picture)) (l .virtualColumns)
+    && virtualListValid (l .picture .height) (ctbSize (l .picture)) (l .virtualRows)
+
+-- ---- 7 tiles: each list begins at 0, and each entry equals the one before or is one more
+
+unfoldable pub followsAt : List ℕ → ℕ → Bool
+followsAt list k = eqb (getD list (k + 1) 0) (getD list k 0) || eqb (getD list (k + 1) 0) (getD list k 0 + 1)
+
+unfoldable pub tileListValid : List ℕ → Bool
+tileListValid list = eqb (getD list 0 0) 0 && allBelow (length list - 1) (followsAt list)
+
+unfoldable pub tilesValid : Layout → Bool
+tilesValid l = tileListValid (l .tileColumns) && tileListValid (l .tileRows)
+
+-- ---- 8 slices, 9 subpictures: four CTBs round a corner, upper left a, upper right b, lower left c, lower right d
+
+-- the first three are alike, and the last is different
+abbrev pub oddOneOut : ℕ → ℕ → ℕ → ℕ → Bool
+oddOneOut a b c d = eqb a b && (eqb a c && not (eqb a d))
+
+-- neither a = c = d with b different, nor a = b = d with c different
+abbrev pub sliceCorner : ℕ → ℕ → ℕ → ℕ → Bool
+sliceCorner a b c d = not (oddOneOut a c d b) && not (oddOneOut a b d c)
+
+-- never exactly three of four have one number
+abbrev pub subpicCorner : ℕ → ℕ → ℕ → ℕ → Bool
+subpicCorner a b c d = not (oddOneOut a b c d) && (not (oddOneOut a b d c) && (not (oddOneOut a c d b) && not (oddOneOut b c d a)))
+
+-- the rule at the corner whose upper left CTB is column x of the row that begins at `from`; at each corner where four CTBs of the grid meet
+unfoldable pub cornerAt : (ℕ → ℕ → ℕ → ℕ → Bool) → List ℕ → ℕ → ℕ → ℕ → Bool
+cornerAt rule map columns from x =
+    rule (getD map (from + x) 0) (getD map (from + x + 1) 0) (getD map (from + columns + x) 0) (getD map (from + columns + x + 1) 0)
+
+unfoldable pub cornersInRow : (ℕ → ℕ → ℕ → ℕ → Bool) → List ℕ → ℕ → ℕ → Bool
+cornersInRow rule map columns y = allBelow (columns - 1) (cornerAt rule map columns (y * columns))
+
+unfoldable pub cornersValid : (ℕ → ℕ → ℕ → ℕ → Bool) → Layout → List ℕ → Bool
+cornersValid rule l map = allBelow (ctbRows l - 1) (cornersInRow rule map (ctbColumns l))
+
+unfoldable pub slicesValid : Layout → Bool
+slicesValid l = every (λ n. ltb n (l .picture .«slice_count»)) (l .sliceMap) && cornersValid sliceCorner l (l .sliceMap)
+
+unfoldable pub subpicturesValid : Layout → Bool
+subpicturesValid l =
+    every (λ n. ltb n 64) (l .subpicMap)
+    && (every (λ n. leb n 1) (l .subpicAcross) && cornersValid subpicCorner l (l .subpicMap))
+
+-- ---- 10 slice parameters and CTB parameters
+
+-- the count and each place are 0 to 7, also where the count leaves a place unused
+unfoldable pub sliceParamsValid : Input → Bool
+sliceParamsValid i = every (λ n. leb n 7) (i .sliceParams)
+
+module _ (i : Input) (c : Ctb) where
+  unfoldable pub ctbRangesValid : Bool
+  ctbRangesValid =
+      leb (ctbParam i c 0) 1 && (leb (ctbParam i c 1) 1 && (leb (ctbParam i c 2) 1
+      && (leb (lumaSet i c) (15 + lumaApsCount i c)
+      && (leb (chromaAlternative i c 0) 7 && (leb (chromaAlternative i c 1) 7
+      && (leb (crossIndex i c 0) 4 && leb (crossIndex i c 1) 4))))))
+
+  -- under chroma format 0 the chroma flags and the four numbers after the luma set are 0
+  unfoldable pub ctbChromaZero : Bool
+  ctbChromaZero =
+      eqb (ctbParam i c 1) 0 && (eqb (ctbParam i c 2) 0
+      && (eqb (chromaAlternative i c 0) 0 && (eqb (chromaAlternative i c 1) 0
+      && (eqb (crossIndex i c 0) 0 && eqb (crossIndex i c 1) 0))))
+
+-- the CTB at an address
+abbrev pub ctbOf : Layout → ℕ → Ctb
+ctbOf l k = record { column = k % ctbColumns l; row = k / ctbColumns l }
+
+unfoldable pub ctbParamsValidAt : Input → ℕ → Bool
+ctbParamsValidAt i k =
+    ctbRangesValid i (ctbOf (i .layout) k)
+    && implies (eqb (i .layout .picture .«chroma_format») 0) (ctbChromaZero i (ctbOf (i .layout) k))
+
+unfoldable pub parametersValid : Input → Bool
+parametersValid i = sliceParamsValid i && allBelow (ctbTotal (i .layout)) (ctbParamsValidAt i)
+
+-- ---- 11 coefficients −128 to 127, clips 0 to 2^B, entries of the fixed map 0 to 63
+
+unfoldable pub coeffValid : ℤ → Bool
+coeffValid z = leZ (negsuc 127) z && leZ z (pos 127)
+
+unfoldable pub clipValid : ℕ → ℤ → Bool
+clipValid depth z = leZ (pos 0) z && leZ z (pos (2 ^ depth))
+
+-- whether number n of an APS is a clip: of a luma filter the last 12 of 24, of a chroma alternative the last 6 of 12
+unfoldable pub isClip : ℕ → Bool
+isClip n = cond (ltb n 600) (leb 12 (n % 24)) (ltb n 696 && leb 6 ((n - 600) % 12))
+
+unfoldable pub bankNumberValid : ℕ → ℕ → ℤ → Bool
+bankNumberValid depth k z = cond (isClip (k % 752)) (clipValid depth z) (coeffValid z)
+
+unfoldable pub bankValid : Input → Bool
+bankValid i = everyFrom 0 (bankNumberValid (i .layout .picture .«bit_depth»)) (i .bank)
+
+unfoldable pub fixedValid : Input → Bool
+fixedValid i = every coeffValid (i .fixedFilters) && every (λ n. ltb n 64) (i .fixedMap)
+
+-- ---- 12 input samples, 13 list addresses, 14 region
+
+unfoldable pub samplesValid : Picture → List ℕ → Bool
+samplesValid p plane = every (λ n. ltb n (2 ^ p .«bit_depth»)) plane
+
+unfoldable pub addressesValid : Input → Bool
+addressesValid i = every (λ n. ltb n (ctbTotal (i .layout))) (i .ctbList)
+
+-- (01: area) a number, 0 or 1, for each 8 by 8 luma block
+unfoldable pub regionLengthValid : Layout → List ℕ → Bool
+regionLengthValid l region = eqb (length region) (l .picture .width / 8 * (l .picture .height / 8))
+
+unfoldable pub regionValid : List ℕ → Bool
+regionValid region = every (λ n. leb n 1) region
+
+-- ---- the lowest number that applies; only what the operation is given is judged
+
+-- n unless the test passes
+unfoldable pub unless : Bool → ℕ → ℕ → ℕ
+unless true n rest = rest
+unless false n rest = n
+
+-- 1 to 9: the layout, which every operation judges; the component and the lengths of the rest are judged beside it
+unfoldable pub layoutFault : Layout → Bool → Bool → ℕ → ℕ
+layoutFault l component lengths rest =
+    unless (pictureSizeValid (l .picture)) 1
+    (unless (ctbSizeValid (l .picture)) 2
+    (unless (bitDepthValid (l .picture)) 3
+    (unless (chromaFormatValid (l .picture) && component) 4
+    (unless (layoutLengthsValid l && lengths) 5
+    (unless (virtualBoundariesValid l) 6
+    (unless (tilesValid l) 7
+    (unless (slicesValid l) 8
+    (unless (subpicturesValid l) 9 rest))))))))
+
+-- 10 to 13: the tables of a filter; its coefficients and its input planes are judged beside them
+unfoldable pub filterFault : Input → Bool → Bool → ℕ
+filterFault i filters planes =
+    unless (parametersValid i) 10
+    (unless filters 11
+    (unless planes 12
+    (unless (addressesValid i) 13 0)))
+
+unfoldable pub tablesFault : Operation → Input → ℕ
+tablesFault classes i = unless (samplesValid (i .layout .picture) (i .luma)) 12 0
+tablesFault luma i = filterFault i (bankValid i && fixedValid i) (samplesValid (i .layout .picture) (i .luma))
+tablesFault (chroma component) i = filterFault i (bankValid i) (samplesValid (i .layout .picture) (i .chroma))
+tablesFault (crossComponent component) i =
+    filterFault i (bankValid i) (samplesValid (i .layout .picture) (i .luma) && samplesValid (i .layout .picture) (i .chroma))
+
+-- 0 where the operation accepts the input
+unfoldable pub fault : Operation → Input → ℕ
+fault op i = layoutFault (i .layout) (componentValid op (i .layout .picture)) (lengthsValid op i) (tablesFault op i)
+
+-- the isolation test's
+unfoldable pub isolationFault : Layout → List ℕ → ℕ
+isolationFault l region = layoutFault l true (regionLengthValid l region) (unless (regionValid region) 14 0)

@@ -1,0 +1,119 @@
+-- The CTB grid, planes and their lengths, and where a sample lies. Assumes nothing.
+use mathlib.Core.Bool.{Bool, true, false, _&&_}
+use mathlib.Core.List.{List}
+use Prim.Native.Nat.{ℕ, suc, pred, _+_, _-_, _*_, _/_, _%_, _^_}
+use lib.Dec.{leb, ltb}
+use Rattle.alf_spec.specs.declared.Picture.{Picture}
+use Rattle.alf_spec.specs.Input.{Layout}
+
+-- Both axes follow one rule: before is left or above, after is right or below.
+pub data Side : Type 0 where
+  before after : Side
+
+abbrev pub sameSide : Side → Side → Bool
+sameSide before before = true
+sameSide before after = false
+sameSide after before = false
+sameSide after after = true
+
+-- the place next to x on that side, and the boundary in between: the boundary at b stands between b − 1 and b
+abbrev pub next : Side → ℕ → ℕ
+next before x = pred x
+next after x = suc x
+
+abbrev pub gap : Side → ℕ → ℕ
+gap before x = x
+gap after x = suc x
+
+-- of n places in a row, x has one next to it on that side
+abbrev pub hasNext : ℕ → Side → ℕ → Bool
+hasNext n d x = ltb 0 (gap d x) && ltb (gap d x) n
+
+-- one axis of a plane. Positions and sizes are in luma samples, but where a comment says that they are the plane's own.
+pub record Axis : Type 0 where
+  -- the picture's samples along it, and a CTB's
+  pub size : ℕ
+  pub ctb : ℕ
+  pub virtualBoundaries : List ℕ
+  -- rows have a line-buffer boundary (01: the line) in each CTB, columns have none
+  pub hasLine : Bool
+  -- luma samples to one of the plane's own: 1, or SubWidthC or SubHeightC
+  pub ratio : ℕ
+
+pub record Plane : Type 0 where
+  pub columns : Axis
+  pub rows : Axis
+
+-- CtbSizeY
+unfoldable pub ctbSize : Picture → ℕ
+ctbSize p = 2 ^ p .«ctb_log2»
+
+-- SubWidthC and SubHeightC. 4:2:0 is the one format with chroma here: chroma planes are half in each direction.
+unfoldable pub subWidth : Picture → ℕ
+subWidth p = 2
+
+unfoldable pub subHeight : Picture → ℕ
+subHeight p = 2
+
+unfoldable pub planeOf : Layout → ℕ → ℕ → Plane
+planeOf l columnRatio rowRatio = record {
+  columns = record { size = l .picture .width; ctb = ctbSize (l .picture); virtualBoundaries = l .virtualColumns; hasLine = false; ratio = columnRatio };
+  rows = record { size = l .picture .height; ctb = ctbSize (l .picture); virtualBoundaries = l .virtualRows; hasLine = true; ratio = rowRatio };
+}
+
+abbrev pub lumaPlane : Layout → Plane
+lumaPlane l = planeOf l 1 1
+
+abbrev pub chromaPlane : Layout → Plane
+chromaPlane l = planeOf l (subWidth (l .picture)) (subHeight (l .picture))
+
+-- the plane's own samples along an axis, and where one of them lies: a chroma sample lies where twice its place lies
+abbrev pub samples : Axis → ℕ
+samples a = a .size / a .ratio
+
+abbrev pub lumaPosition : Axis → ℕ → ℕ
+lumaPosition a x = x * a .ratio
+
+-- a plane is stored row by row: its length, the index of a sample, and the sample at an index
+abbrev pub planeLength : Plane → ℕ
+planeLength g = samples (g .columns) * samples (g .rows)
+
+abbrev pub indexOf : Plane → ℕ → ℕ → ℕ
+indexOf g x y = y * samples (g .columns) + x
+
+abbrev pub columnOf : Plane → ℕ → ℕ
+columnOf g k = k % samples (g .columns)
+
+abbrev pub rowOf : Plane → ℕ → ℕ
+rowOf g k = k / samples (g .columns)
+
+-- the CTBs along an axis, Ceil( size ÷ CtbSizeY ); where the CTB of a position begins, and the position counted from there
+abbrev pub ctbCount : Axis → ℕ
+ctbCount a = (a .size + (a .ctb - 1)) / a .ctb
+
+abbrev pub ctbStart : Axis → ℕ → ℕ
+ctbStart a x = x / a .ctb * a .ctb
+
+abbrev pub inCtb : Axis → ℕ → ℕ
+inCtb a x = x % a .ctb
+
+-- a CTB by its place in the grid: that of a sample of a plane, and its address
+pub record Ctb : Type 0 where
+  pub column : ℕ
+  pub row : ℕ
+
+abbrev pub ctbAt : Plane → ℕ → ℕ → Ctb
+ctbAt g x y = record { column = lumaPosition (g .columns) x / g .columns .ctb; row = lumaPosition (g .rows) y / g .rows .ctb }
+
+abbrev pub ctbColumns : Layout → ℕ
+ctbColumns l = ctbCount (lumaPlane l .columns)
+
+abbrev pub ctbRows : Layout → ℕ
+ctbRows l = ctbCount (lumaPlane l .rows)
+
+abbrev pub address : Layout → Ctb → ℕ
+address l c = c .row * ctbColumns l + c .column
+
+-- 01: the line rule is on exactly when the CTB's rows all lie in the picture (applyAlfLineBufBoundary)
+unfoldable pub lineRule : Axis → ℕ → Bool
+lineRule a y = leb (ctbStart a y + a .ctb) (a .size)

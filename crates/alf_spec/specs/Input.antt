@@ -1,0 +1,45 @@
+-- What the operations are given (01: What is lent). Assumes nothing.
+use mathlib.Core.List.{List}
+use Prim.Native.Nat.{ℕ}
+use lib.IntN.{ℤ}
+use Rattle.alf_spec.specs.declared.Picture.{Picture}
+
+-- the picture and its boundary tables: what every operation is given (01: frame; virtual boundaries, tiles, slices, subpictures)
+pub record Layout : Type 0 where
+  pub picture : Picture
+  pub virtualColumns : List ℕ
+  pub virtualRows : List ℕ
+  -- the tile column of each CTB column, the tile row of each CTB row
+  pub tileColumns : List ℕ
+  pub tileRows : List ℕ
+  -- by CTB address
+  pub sliceMap : List ℕ
+  pub subpicMap : List ℕ
+  -- by subpicture: 1 filters across its sides
+  pub subpicAcross : List ℕ
+
+-- the operations that have a plane or a class map for their output; a component is 0 (Cb) or 1 (Cr)
+pub data Operation : Type 0 where
+  classes : Operation
+  luma : Operation
+  chroma : ℕ → Operation
+  crossComponent : ℕ → Operation
+
+-- all that an operation may be given. Classes read the layout and luma alone; the luma filter reads no chroma, the chroma filter no luma
+-- and no fixed tables, the cross-component filter no fixed tables
+pub record Input : Type 0 where
+  pub layout : Layout
+  pub luma : List ℕ
+  pub chroma : List ℕ
+  -- eleven numbers a slice (01: slice row)
+  pub sliceParams : List ℕ
+  -- eight APSs of 752 numbers (01: bank)
+  pub bank : List ℤ
+  -- eight numbers a CTB (01: CTB choices)
+  pub ctbParams : List ℕ
+  pub ctbList : List ℕ
+  -- AlfFixFiltCoeff, 64 filters of 12, and AlfClassToFiltMap, 16 times 25
+  pub fixedFilters : List ℤ
+  pub fixedMap : List ℕ
+  -- how many entries the output has
+  pub outputLength : ℕ

@@ -1,0 +1,73 @@
+-- 8.8.5.6, ALF sample padding: the sample that stands for a neighbour of a sample. Every filter, and the class window, reads by it.
+-- Assumes nothing.
+use mathlib.Core.Bool.{Bool, true, false, _&&_, cond}
+use mathlib.Core.List.{List}
+use mathlib.Core.Option.{Option, some, none}
+use Prim.Native.Nat.{ℕ, pred, _+_, _/_, min, max}
+use lib.Dec.{leb, ltb}
+use lib.ListN.{getD}
+use Rattle.alf_spec.specs.Input.{Layout}
+use Rattle.alf_spec.specs.Geometry.{Side, before, after, Axis, Plane, samples, lumaPosition, indexOf, ctbStart, ctbAt}
+use Rattle.alf_spec.specs.Boundary.{columnSide, rowSide, corner, clipPosition}
+
+abbrev pub isNone : Option ℕ → Bool
+isNone none = true
+isNone (some e) = false
+
+-- along one axis, in the plane's own samples
+module _ (a : Axis) where
+  -- (1521) to (1524): a clip position in the plane's own samples; where there is none, the plane's end
+  abbrev pub lowest : Option ℕ → ℕ
+  lowest none = 0
+  lowest (some e) = e / a .ratio
+
+  abbrev pub limit : Option ℕ → ℕ
+  limit none = samples a
+  limit (some e) = e / a .ratio
+
+  -- (1525) to (1528): a neighbour at p, first clamped to the plane, then to the clip positions, the one after less 1
+  abbrev pub clamped : (Side → Option ℕ) → ℕ → ℕ
+  clamped clip p = min (pred (limit (clip after))) (max (lowest (clip before)) (min p (pred (samples a))))
+
+  -- (1517) to (1520): the first and the last place of x's CTB
+  abbrev pub ctbRim : Side → ℕ → ℕ
+  ctbRim before x = ctbStart a (lumaPosition a x) / a .ratio
+  ctbRim after x = pred (ctbStart a (lumaPosition a x) / a .ratio + a .ctb / a .ratio)
+
+  -- p lies before, or after, x's CTB
+  abbrev pub pastCtb : Side → ℕ → ℕ → Bool
+  pastCtb before x p = ltb p (ctbRim before x)
+  pastCtb after x p = ltb (ctbRim after x) p
+
+-- the sample that is filtered: a plane's, at column x and row y
+module _ (l : Layout) (g : Plane) (x y : ℕ) where
+  unfoldable pub columnClip : Side → Option ℕ
+  columnClip = clipPosition (g .columns) (lumaPosition (g .columns) x) (columnSide l (ctbAt g x y))
+
+  unfoldable pub rowClip : Side → Option ℕ
+  rowClip = clipPosition (g .rows) (lumaPosition (g .rows) y) (rowSide l (ctbAt g x y))
+
+  -- its neighbour at column p and row q. Positions are never negative: x − 3 is 0 where x is below 3, as (1464) has it.
+  module _ (p q : ℕ) where
+    unfoldable pub clampedColumn : ℕ
+    clampedColumn = clamped (g .columns) columnClip p
+
+    unfoldable pub paddedRow : ℕ
+    paddedRow = clamped (g .rows) rowClip q
+
+    -- 01: where top and left have no edge, the slice switch is off and the upper-left CTB is of another slice, a neighbour left of and
+    -- above the CTB; the lower right likewise
+    unfoldable pub pastCorner : Side → Bool
+    pastCorner d =
+        pastCtb (g .columns) d x clampedColumn
+        && (pastCtb (g .rows) d y paddedRow && (isNone (columnClip d) && (isNone (rowClip d) && corner l (ctbAt g x y) d)))
+
+    -- it moves to the CTB's first column, or last, same row
+    unfoldable pub paddedColumn : ℕ
+    paddedColumn =
+        cond (pastCorner before) (ctbRim (g .columns) before x)
+        (cond (pastCorner after) (ctbRim (g .columns) after x)
+        clampedColumn)
+
+  unfoldable pub read : List ℕ → ℕ → ℕ → ℕ
+  read plane p q = getD plane (indexOf g (paddedColumn p q) (paddedRow p q)) 0
