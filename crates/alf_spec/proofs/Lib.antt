@@ -1,1 +1,3 @@
+-- Claims about the definitions alone, and laws of the words in `specs/Lists`.
+pub mod Tests
 pub mod WorkedExamples

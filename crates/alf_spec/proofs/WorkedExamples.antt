@@ -7,6 +7,7 @@ use mathlib.Core.Option.{Option, some, none}
 use Prim.Native.Nat.{ℕ, zero, suc, _*_}
 use lib.IntN.{ℤ, pos, negsuc}
 use lib.ListN.{replicate}
+use Rattle.alf_spec.specs.declared.Class.{Class}
 use Rattle.alf_spec.specs.Lists.{everyFrom, allBelow, elem, sum, sumℤ, tabulate, painted}
 use Rattle.alf_spec.specs.Integers.{clip3, distance, rounded, clipSample, clippedChange, tap, tapSum, filtered}
 use Rattle.alf_spec.specs.Input.{Layout, Input}
@@ -14,7 +15,7 @@ use Rattle.alf_spec.specs.Geometry.{Side, before, after, ctbSize, planeO
 use Rattle.alf_spec.specs.Boundary.{sliceOf, subpicOf, tileColumnOf, tileRowOf, tileCloses, sliceCloses, subpicCloses, columnSide, rowSide, corner, find, lineRuleAt, virtualRuleAt, sideRuleAt, clipPosition}
 use Rattle.alf_spec.specs.Padding.{columnClip, rowClip, clampedColumn, paddedRow, pastCorner, paddedColumn, read}
 use Rattle.alf_spec.specs.Parameters.{ctbParam, sliceParam, bankNumber, fixedCoeff}
-use Rattle.alf_spec.specs.Classes.{Sums, classWindow, filtH, filtV, filtD0, filtD1, windowRows, windowSum, windowSums, hv, dd, diagonal, mainGradient, otherGradient, strength, activity, transposeIdx, filtIdx, classOf, blockClass}
+use Rattle.alf_spec.specs.Classes.{classWindow, filtH, filtV, filtD0, filtD1, windowRows, windowSum, windowSums, larger, diagonal, mainGradient, otherGradient, strength, activity, transposeIdx, filtIdx, classOfSums, classOf, blockClass}
 use Rattle.alf_spec.specs.Luma.{lumaF, lumaC, tapOrder, lumaRows, lumaPlus, lumaMinus, lumaWith, lumaSample}
 
 -- ---- what the examples are about; what 01 leaves open in one is chosen here
@@ -52,12 +53,12 @@ cornered = layout 2 64 64 (0 ∷ 1 ∷ 1 ∷ 1 ∷ [])
 abbrev rowEdge : ℕ → Side → Option ℕ
 rowEdge y d = rowClip (plain 64) (lumaPlane (plain 64)) 0 y d
 
--- V, H, D0, D1; and the class and the transpose of such sums, with depth 8 and factor 2
-abbrev sums : ℕ → ℕ → ℕ → ℕ → Sums
-sums v h d0 d1 = record { v = v; h = h; d0 = d0; d1 = d1 }
+-- the class of the sums V, H, D0, D1, with depth 8 and factor 2
+abbrev classed : ℕ → ℕ → ℕ → ℕ → Class
+classed v h d0 d1 = classOfSums 8 2 (record { v = v; h = h; d0 = d0; d1 = d1 })
 
-abbrev classed : Sums → ℕ × ℕ
-classed s = (filtIdx s 8 2, transposeIdx s)
+abbrev class : ℕ → ℕ → Class
+class filter transpose = record { filter = filter; transpose = transpose }
 
 -- 8 by 8 luma samples: at (3, 1) stands 10, right of it 14, left of it 10. Two others give the block the transpose 0.
 abbrev plane : List ℕ
@@ -99,13 +100,13 @@ pub record WorkedExamples : Type 0 where
   -- by shift 10, 959 and 960 give 0 and 1
   pub P2 : map (rounded 10) (pos 959 ∷ pos 960 ∷ []) ≡ pos 0 ∷ pos 1 ∷ []
   -- sums V, H, D0, D1: class and transpose
-  pub P3 : classed (sums 0 0 0 0) ≡ (0, 3)
-  pub P4 : classed (sums 10 2 4 4) ≡ (20, 2)
-  pub P5 : classed (sums 9 2 4 4) ≡ (15, 2)
-  pub P6 : classed (sums 3 3 8 1) ≡ (10, 1)
-  pub P7 : classed (sums 5 0 7 0) ≡ (20, 0)
+  pub P3 : classed 0 0 0 0 ≡ class 0 3
+  pub P4 : classed 10 2 4 4 ≡ class 20 2
+  pub P5 : classed 9 2 4 4 ≡ class 15 2
+  pub P6 : classed 3 3 8 1 ≡ class 10 1
+  pub P7 : classed 5 0 7 0 ≡ class 20 0
   -- depth 10, factor 2: V + H of 3,839 and 3,840 give activity 3 and 4
-  pub P8 : map (λ v. activity (sums v 0 0 0) 10 2) (3839 ∷ 3840 ∷ []) ≡ 3 ∷ 4 ∷ []
+  pub P8 : map (activity 10 2) (3839 ∷ 3840 ∷ []) ≡ 3 ∷ 4 ∷ []
   -- y = 23 has no bottom edge, 24 has 28; y = 28 has top edge 28
   pub P9 : rowEdge 23 after ∷ rowEdge 24 after ∷ rowEdge 28 before ∷ [] ≡ none ∷ some 28 ∷ some 28 ∷ []
   -- the neighbour (31, 31) of a sample of the CTB at (32, 32) becomes (32, 31)
@@ -115,12 +116,12 @@ pub record WorkedExamples : Type 0 where
   -- clips 256, 3 and 2 give 12, 12 and 11
   pub P12 : map (λ c. lumaSample (input 16 c) 3 1) (256 ∷ 3 ∷ 2 ∷ []) ≡ 12 ∷ 12 ∷ 11 ∷ []
   -- of P12: the block has transpose 0, and class 17; the fixed filter's clip at depth 8 is 256, and gives 12
-  pub P12-class : blockClass (input 0 0 .layout) plane 0 0 ≡ record { filter = 17; transpose = 0 }
+  pub P12-class : blockClass (input 0 0 .layout) plane 0 0 ≡ class 17 0
   pub P12-clip : lumaC (input 0 0) (ctbAt (lumaPlane (input 0 0 .layout)) 3 1) 17 11 ≡ pos 256
   pub P12-fixed : lumaSample (input 0 0) 3 1 ≡ 12
 
 pub worked-examples : WorkedExamples
-unfolding everyFrom allBelow elem sum sumℤ tabulate painted clip3 distance rounded clipSample clippedChange tap tapSum filtered ctbSize planeOf lineRule sliceOf subpicOf tileColumnOf tileRowOf tileCloses sliceCloses subpicCloses columnSide rowSide corner find lineRuleAt virtualRuleAt sideRuleAt clipPosition columnClip rowClip clampedColumn paddedRow pastCorner paddedColumn read ctbParam sliceParam bankNumber fixedCoeff classWindow filtH filtV filtD0 filtD1 windowRows windowSum windowSums hv dd diagonal mainGradient otherGradient strength activity transposeIdx filtIdx classOf blockClass lumaF lumaC tapOrder lumaRows lumaPlus lumaMinus lumaWith lumaSample
+unfolding everyFrom allBelow elem sum sumℤ tabulate painted clip3 distance rounded clipSample clippedChange tap tapSum filtered ctbSize planeOf lineRule sliceOf subpicOf tileColumnOf tileRowOf tileCloses sliceCloses subpicCloses columnSide rowSide corner find lineRuleAt virtualRuleAt sideRuleAt clipPosition columnClip rowClip clampedColumn paddedRow pastCorner paddedColumn read ctbParam sliceParam bankNumber fixedCoeff classWindow filtH filtV filtD0 filtD1 windowRows windowSum windowSums larger diagonal mainGradient otherGradient strength activity transposeIdx filtIdx classOfSums classOf blockClass lumaF lumaC tapOrder lumaRows lumaPlus lumaMinus lumaWith lumaSample
 worked-examples = record {
   P1 = refl;
   P2 = refl;

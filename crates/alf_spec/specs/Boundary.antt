@@ -6,8 +6,9 @@ use mathlib.Core.Option.{Option, some, none}
 use Prim.Native.Nat.{ℕ, _+_, _-_, _/_}
 use lib.Dec.{eqb, leb, ltb}
 use lib.ListN.{getD}
+use Rattle.alf_spec.specs.declared.Ctb.{Ctb}
 use Rattle.alf_spec.specs.Input.{Layout}
-use Rattle.alf_spec.specs.Geometry.{Side, before, after, next, hasNext, Axis, ctbStart, inCtb, Ctb, ctbColumns, ctbRows, address}
+use Rattle.alf_spec.specs.Geometry.{Side, before, after, next, hasNext, Axis, ctbStart, inCtb, ctbColumns, ctbRows, address}
 
 -- ---- sides
 

@@ -4,6 +4,10 @@ use mathlib.Core.List.{List, [], _∷_}
 use Prim.Native.Nat.{ℕ, _+_, _-_, _*_, _/_, _%_, _^_, min}
 use lib.Dec.{eqb, ltb}
 use lib.ListN.{getD}
+use Rattle.alf_spec.specs.declared.WindowRows.{WindowRows}
+use Rattle.alf_spec.specs.declared.Sums.{Sums}
+use Rattle.alf_spec.specs.declared.Gradient.{Gradient}
+use Rattle.alf_spec.specs.declared.Class.{Class}
 use Rattle.alf_spec.specs.Lists.{sum, tabulate}
 use Rattle.alf_spec.specs.Integers.{distance}
 use Rattle.alf_spec.specs.Input.{Layout}
@@ -34,12 +38,7 @@ module _ (window : List ℕ) where
   unfoldable pub filtD1 : ℕ → ℕ → ℕ
   filtD1 i j = distance (2 * at i j) (at (i + 1) (j - 1) + at (i - 1) (j + 1))
 
--- the rows of a window that count, minY to maxY as the first one and how many, and the activity factor ac
-pub record WindowRows : Type 0 where
-  pub first : ℕ
-  pub count : ℕ
-  pub factor : ℕ
-
+-- minY to maxY, as the first row of the window and how many, and ac
 -- the block at S − 8 uses rows −2 to 3, that at S − 4 rows 0 to 5, with factor 3, when the line rule is on; others −2 to 5, with factor 2
 unfoldable pub windowRows : Bool → ℕ → ℕ → WindowRows
 windowRows line s y =
@@ -51,25 +50,10 @@ windowRows line s y =
 unfoldable pub windowSum : WindowRows → (ℕ → ℕ → ℕ) → ℕ
 windowSum r filt = sum (r .count) (λ j. sum 8 (λ i. cond (eqb ((i + 1) % 2) ((r .first + j) % 2)) (filt (i + 1) (r .first + j)) 0))
 
-pub record Sums : Type 0 where
-  pub v : ℕ
-  pub h : ℕ
-  pub d0 : ℕ
-  pub d1 : ℕ
-
 unfoldable pub windowSums : WindowRows → List ℕ → Sums
 windowSums r w = record { v = windowSum r (filtV w); h = windowSum r (filtH w); d0 = windowSum r (filtD0 w); d1 = windowSum r (filtD1 w) }
 
 -- ---- direction, activity, class
-
--- two sums of directions that cross: the larger, the smaller, and the larger one's direction
-pub record Gradient : Type 0 where
-  pub large : ℕ
-  pub small : ℕ
-  pub direction : ℕ
-
-abbrev pub gradient : ℕ → ℕ → ℕ → Gradient
-gradient a b d = record { large = a; small = b; direction = d }
 
 -- (1498), and the transpose table above (1500)
 abbrev pub activityTable : List ℕ
@@ -78,55 +62,58 @@ activityTable = 0 ∷ 1 ∷ 2 ∷ 2 ∷ 2 ∷ 2 ∷ 2 ∷ 3 ∷ 3 ∷ 3 ∷ 3 �
 abbrev pub transposeTable : List ℕ
 transposeTable = 0 ∷ 1 ∷ 0 ∷ 2 ∷ 2 ∷ 3 ∷ 1 ∷ 3 ∷ []
 
-module _ (s : Sums) where
-  -- (1481) to (1486): hv1, hv0, dirHV
-  unfoldable pub hv : Gradient
-  hv = cond (ltb (s .h) (s .v)) (gradient (s .v) (s .h) 1) (gradient (s .h) (s .v) 3)
+-- of two sums a and b with their directions: the larger, the smaller, and the larger one's direction; a only where it is greater
+abbrev pub gradient : ℕ → ℕ → ℕ → Gradient
+gradient large small direction = record { large = large; small = small; direction = direction }
 
-  -- (1487) to (1492): d1, d0, dirD
-  unfoldable pub dd : Gradient
-  dd = cond (ltb (s .d1) (s .d0)) (gradient (s .d0) (s .d1) 0) (gradient (s .d1) (s .d0) 2)
+unfoldable pub larger : ℕ → ℕ → ℕ → ℕ → Gradient
+larger a b directionA directionB = cond (ltb b a) (gradient a b directionA) (gradient b a directionB)
 
-  -- d1 * hv0 > hv1 * d0
-  unfoldable pub diagonal : Bool
-  diagonal = ltb (hv .large * dd .small) (dd .large * hv .small)
+-- (1481) to (1486): hv1, hv0, dirHV
+abbrev pub hv : Sums → Gradient
+hv s = larger (s .v) (s .h) 1 3
 
-  -- (1493) to (1496): hvd1, hvd0 and dir1 are those of the main gradient, dir2 is the other's
-  unfoldable pub mainGradient : Gradient
-  mainGradient = cond diagonal dd hv
+-- (1487) to (1492): d1, d0, dirD
+abbrev pub dd : Sums → Gradient
+dd s = larger (s .d0) (s .d1) 0 2
 
-  unfoldable pub otherGradient : Gradient
-  otherGradient = cond diagonal hv dd
+-- d1 * hv0 > hv1 * d0
+unfoldable pub diagonal : Gradient → Gradient → Bool
+diagonal d hv = ltb (hv .large * d .small) (d .large * hv .small)
 
-  -- (1497): dirS
-  unfoldable pub strength : ℕ
-  strength =
-      cond (ltb (9 * mainGradient .small) (mainGradient .large * 2)) 2
-      (cond (ltb (2 * mainGradient .small) (mainGradient .large)) 1
-      0)
+-- (1493) to (1496): hvd1, hvd0 and dir1 are those of the main gradient, dir2 is the other's
+unfoldable pub mainGradient : Sums → Gradient
+mainGradient s = cond (diagonal (dd s) (hv s)) (dd s) (hv s)
 
-  -- (1499), with sumOfHV of (1480): avgVar
-  unfoldable pub activity : ℕ → ℕ → ℕ
-  activity depth factor = getD activityTable (min 15 ((s .h + s .v) * factor / 2 ^ (depth - 1))) 0
+unfoldable pub otherGradient : Sums → Gradient
+otherGradient s = cond (diagonal (dd s) (hv s)) (hv s) (dd s)
 
-  -- transposeIdx
-  unfoldable pub transposeIdx : ℕ
-  transposeIdx = getD transposeTable (mainGradient .direction * 2 + otherGradient .direction / 2) 0
+-- (1497): dirS
+unfoldable pub strength : Gradient → ℕ
+strength g = cond (ltb (9 * g .small) (g .large * 2)) 2 (cond (ltb (2 * g .small) (g .large)) 1 0)
 
-  -- (1500): filtIdx
-  unfoldable pub filtIdx : ℕ → ℕ → ℕ
-  filtIdx depth factor =
-      activity depth factor
-      + cond (eqb strength 0) 0 ((mainGradient .direction % 2 * 2 + strength) * 5)
+-- (1499): avgVar, from sumOfHV of (1480)
+unfoldable pub activity : ℕ → ℕ → ℕ → ℕ
+activity depth factor sumOfHV = getD activityTable (min 15 (sumOfHV * factor / 2 ^ (depth - 1))) 0
 
--- ---- of a block, by its first sample
+-- transposeIdx
+unfoldable pub transposeIdx : Gradient → Gradient → ℕ
+transposeIdx main other = getD transposeTable (main .direction * 2 + other .direction / 2) 0
 
-pub record Class : Type 0 where
-  pub filter : ℕ
-  pub transpose : ℕ
+-- (1500): filtIdx
+unfoldable pub filtIdx : ℕ → Gradient → ℕ
+filtIdx avgVar main = cond (eqb (strength main) 0) avgVar (avgVar + (main .direction % 2 * 2 + strength main) * 5)
+
+-- ---- of sums, of a window, of a block by its first sample
+
+unfoldable pub classOfSums : ℕ → ℕ → Sums → Class
+classOfSums depth factor s = record {
+  filter = filtIdx (activity depth factor (s .h + s .v)) (mainGradient s);
+  transpose = transposeIdx (mainGradient s) (otherGradient s);
+}
 
 unfoldable pub classOf : ℕ → WindowRows → List ℕ → Class
-classOf depth r window = record { filter = filtIdx (windowSums r window) depth (r .factor); transpose = transposeIdx (windowSums r window) }
+classOf depth r window = classOfSums depth (r .factor) (windowSums r window)
 
 unfoldable pub blockClass : Layout → List ℕ → ℕ → ℕ → Class
 blockClass l plane x4 y4 =

@@ -9,8 +9,9 @@ use lib.Dec.{eqb, leb, ltb}
 use lib.ListN.{length, getD}
 use Rattle.alf_spec.specs.declared.Picture.{Picture}
 use Rattle.alf_spec.specs.Lists.{within, implies, allBelow, everyFrom, every}
+use Rattle.alf_spec.specs.declared.Ctb.{Ctb}
 use Rattle.alf_spec.specs.Input.{Layout, Operation, classes, luma, chroma, crossComponent, Input}
-use Rattle.alf_spec.specs.Geometry.{ctbSize, lumaPlane, chromaPlane, planeLength, ctbColumns, ctbRows, Ctb}
+use Rattle.alf_spec.specs.Geometry.{ctbSize, lumaPlane, chromaPlane, planeLength, ctbColumns, ctbRows}
 use Rattle.alf_spec.specs.Parameters.{ctbParam, lumaSet, chromaAlternative, crossIndex, lumaApsCount}
 use Rattle.alf_spec.specs.Process.{classTotal}
 

@@ -4,6 +4,7 @@ use mathlib.Core.List.{List}
 use Prim.Native.Nat.{ℕ, suc, pred, _+_, _-_, _*_, _/_, _%_, _^_}
 use lib.Dec.{leb, ltb}
 use Rattle.alf_spec.specs.declared.Picture.{Picture}
+use Rattle.alf_spec.specs.declared.Ctb.{Ctb}
 use Rattle.alf_spec.specs.Input.{Layout}
 
 -- Both axes follow one rule: before is left or above, after is right or below.
@@ -97,11 +98,7 @@ ctbStart a x = x / a .ctb * a .ctb
 abbrev pub inCtb : Axis → ℕ → ℕ
 inCtb a x = x % a .ctb
 
--- a CTB by its place in the grid: that of a sample of a plane, and its address
-pub record Ctb : Type 0 where
-  pub column : ℕ
-  pub row : ℕ
-
+-- the CTB of a sample of a plane, and a CTB's address
 abbrev pub ctbAt : Plane → ℕ → ℕ → Ctb
 ctbAt g x y = record { column = lumaPosition (g .columns) x / g .columns .ctb; row = lumaPosition (g .rows) y / g .rows .ctb }
 

@@ -7,11 +7,13 @@ use lib.Dec.{eqb, ltb}
 use lib.ListN.{getD}
 use Rattle.alf_spec.specs.declared.LumaRows.{LumaRows}
 use Rattle.alf_spec.specs.Integers.{tapSum, filtered}
+use Rattle.alf_spec.specs.declared.Ctb.{Ctb}
+use Rattle.alf_spec.specs.declared.Class.{Class}
 use Rattle.alf_spec.specs.Input.{Input}
-use Rattle.alf_spec.specs.Geometry.{Ctb, lumaPlane, indexOf, inCtb, ctbAt, lineRule}
+use Rattle.alf_spec.specs.Geometry.{lumaPlane, indexOf, inCtb, ctbAt, lineRule}
 use Rattle.alf_spec.specs.Padding.{read}
 use Rattle.alf_spec.specs.Parameters.{lumaSet, lumaAps, lumaCoeff, lumaClip, fixedCoeff}
-use Rattle.alf_spec.specs.Classes.{Class, blockClass}
+use Rattle.alf_spec.specs.Classes.{blockClass}
 
 -- (1454) to (1459): f[ j ] and c[ j ] of a CTB for a class
 module _ (i : Input) (c : Ctb) (filter j : ℕ) where

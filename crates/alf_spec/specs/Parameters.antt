@@ -5,8 +5,9 @@ use Prim.Native.Nat.{ℕ, _+_, _*_}
 use lib.IntN.{ℤ, pos}
 use lib.Dec.{eqb}
 use lib.ListN.{getD}
+use Rattle.alf_spec.specs.declared.Ctb.{Ctb}
 use Rattle.alf_spec.specs.Input.{Layout, Input}
-use Rattle.alf_spec.specs.Geometry.{Ctb, address}
+use Rattle.alf_spec.specs.Geometry.{address}
 use Rattle.alf_spec.specs.Boundary.{sliceOf}
 
 module _ (i : Input) (c : Ctb) where

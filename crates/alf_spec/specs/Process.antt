@@ -3,10 +3,12 @@ use mathlib.Core.Bool.{Bool, _&&_}
 use mathlib.Core.List.{List}
 use Prim.Native.Nat.{ℕ, _+_, _*_, _/_, _%_}
 use Rattle.alf_spec.specs.Lists.{elem, tabulate, painted}
+use Rattle.alf_spec.specs.declared.Ctb.{Ctb}
+use Rattle.alf_spec.specs.declared.Class.{Class}
 use Rattle.alf_spec.specs.Input.{Layout, Operation, classes, luma, chroma, crossComponent, Input}
-use Rattle.alf_spec.specs.Geometry.{Plane, Ctb, lumaPlane, chromaPlane, columnOf, rowOf, ctbAt, address}
+use Rattle.alf_spec.specs.Geometry.{Plane, lumaPlane, chromaPlane, columnOf, rowOf, ctbAt, address}
 use Rattle.alf_spec.specs.Parameters.{lumaOn, chromaOn, crossOn}
-use Rattle.alf_spec.specs.Classes.{Class, blockClass}
+use Rattle.alf_spec.specs.Classes.{blockClass}
 use Rattle.alf_spec.specs.Luma.{lumaSample}
 use Rattle.alf_spec.specs.Chroma.{chromaSample}
 use Rattle.alf_spec.specs.CrossComponent.{crossSample}

@@ -1,4 +1,4 @@
-// The types that the operations' callers see, and those that the definitions in specs/ speak of.
+// The types that callers of the operations see, and those that code and definitions share.
 
 // A picture's sizes and switches. A switch that is true filters across.
 pub struct Picture {
@@ -44,7 +44,41 @@ pub enum Isolation {
     Rejected(Fault),
 }
 
-// Table 45: how far the rows above and below that a luma tap reads may lie, and the shift of the sum.
+// A CTB by its place in the grid.
+pub struct Ctb {
+    pub column: u32,
+    pub row: u32,
+}
+
+// The rows of a class window that count, as the first and how many, and the activity factor.
+pub struct WindowRows {
+    pub first: u32,
+    pub count: u32,
+    pub factor: u32,
+}
+
+// The sums of second differences over a class window: vertical, horizontal, and along the two diagonals.
+pub struct Sums {
+    pub v: u32,
+    pub h: u32,
+    pub d0: u32,
+    pub d1: u32,
+}
+
+// Two of these sums whose directions cross: the larger, the smaller, and the larger one's direction.
+pub struct Gradient {
+    pub large: u32,
+    pub small: u32,
+    pub direction: u32,
+}
+
+// The filter index (class) and the transpose of a 4 by 4 block.
+pub struct Class {
+    pub filter: u32,
+    pub transpose: u32,
+}
+
+// How far above and below its row a luma sample's taps read, and the shift of their sum (Table 45).
 pub struct LumaRows {
     pub y1: u32,
     pub y2: u32,
@@ -52,14 +86,14 @@ pub struct LumaRows {
     pub shift: u32,
 }
 
-// Table 46: the same for chroma.
+// The same for chroma (Table 46).
 pub struct ChromaRows {
     pub y1: u32,
     pub y2: u32,
     pub shift: u32,
 }
 
-// Table 47: the same for the cross-component filter, whose shift is always 7.
+// The same for the cross-component filter (Table 47), whose shift is always 7.
 pub struct CrossRows {
     pub y1: u32,
     pub y2: u32,

@@ -1,0 +1,25 @@
+-- `alf_math::direction::filter_index` meets its contract: the sums are small. Assumes nothing.
+use native.Mathlib.Omega.{arith}
+use borrow.Author.Needs.{needs}
+use borrow.Author.Tests.{eq-eqb, ne-eqb}
+use Prim.Native.Nat.{_<_}
+use Rattle.alf_spec.specs.Classes.{strength, filtIdx}
+use Rattle.alf_math.proofs.Gradients.{strength-small}
+use Rattle.alf_math.proofs.direction.filter_index.Statement.{statement}
+use Rattle.alf_math.proofs.direction.filter_index.Tie as tie
+
+small : (c : tie.After-strength) → c .strength .result < 3
+small c = rw (c .strength .ensures) (strength-small (c .before .args .main))
+
+pub filter-index-spec : {M : Type 1} → statement M
+unfolding filtIdx
+filter-index-spec =
+    tie.close
+    (tie.spec
+    (λ c κs. search needs)
+    (λ c. search needs)
+    (λ c. omega (arith, small (c .before .before)))
+    (λ c. omega (arith, small (c .before .before)))
+    (λ c. omega (arith, small (c .before .before)))
+    (λ c. rw (← c .before .strength .ensures, eq-eqb (c .before .strength .result) 0 (c .if1 .taken)))
+    (λ c. rw (← c .before .before .strength .ensures, ne-eqb (c .before .before .strength .result) 0 (c .before .if1 .left))))
