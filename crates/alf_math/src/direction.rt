@@ -58,7 +58,7 @@ fn up_to_15(n: u32) -> u32
 }
 
 // (1499)
-fn activity(total: u32, factor: u32, depth: u32) -> u32
+pub fn activity(total: u32, factor: u32, depth: u32) -> u32
     requires { ⌜ (total < 2 ^ 19) × (factor ≤ 3) × (8 ≤ depth) × (depth ≤ 12) ⌝ }
     ensures { λ r. ⌜ r ≡ activityOf depth factor total ⌝ }
 {

@@ -1,0 +1,122 @@
+// Runs the worked examples P1 to P8 and P12 of paper 01 on the proved leaves, one line each.
+// (P9 to P11 speak of positions: they are proved of the definitions, and run once there is code for positions.)
+ghost use Prim.Native.Nat.{_^_, _≤_, _<_};
+ghost use lib.IntN.{natAbs};
+use alf_math::direction::activity;
+use alf_math::direction::class_of_sums;
+use alf_math::rounding::filtered;
+use alf_math::rounding::rounded;
+use alf_math::taps::tap;
+use alf_spec::Sums;
+use libc::STDOUT_FILENO;
+
+fn print(text: &[u8]) {
+    io::write_all(STDOUT_FILENO, text);
+}
+
+fn print_number(n: u32) {
+    io::print_decimal(STDOUT_FILENO, n as u64);
+}
+
+fn print_integer(n: i32)
+    requires { ⌜ natAbs n ≤ 2 ^ 30 ⌝ }
+{
+    if n < 0 {
+        print(b"-");
+        print_number((-n) as u32);
+    } else {
+        print_number(n as u32);
+    }
+}
+
+// A number, and what comes of it.
+fn show(n: i32, r: i32)
+    requires { ⌜ (natAbs n ≤ 2 ^ 30) × (natAbs r ≤ 2 ^ 30) ⌝ }
+{
+    print(b"  ");
+    print_integer(n);
+    print(b" -> ");
+    print_integer(r);
+}
+
+// A sum, rounded.
+fn show_rounded(sum: i32, shift: u32)
+    requires { ⌜ (natAbs sum ≤ 2 ^ 20) × (shift < 32) ⌝ }
+{
+    show(sum, rounded(sum, shift));
+}
+
+// Sums, and their class and transpose at depth 8 with factor 2.
+fn show_class(v: u32, h: u32, d0: u32, d1: u32)
+    requires { ⌜ (v < 2 ^ 18) × (h < 2 ^ 18) × (d0 < 2 ^ 18) × (d1 < 2 ^ 18) ⌝ }
+{
+    print(b"  V ");
+    print_number(v);
+    print(b"  H ");
+    print_number(h);
+    print(b"  D0 ");
+    print_number(d0);
+    print(b"  D1 ");
+    print_number(d1);
+    let class = class_of_sums(
+        Sums {
+            v: v,
+            h: h,
+            d0: d0,
+            d1: d1,
+        },
+        2,
+        8,
+    );
+    print(b" -> class ");
+    print_number(class.filter);
+    print(b", transpose ");
+    print_number(class.transpose);
+    print(b"\n");
+}
+
+// V + H, and the activity at depth 10 with factor 2.
+fn show_activity(total: u32)
+    requires { ⌜ total < 2 ^ 19 ⌝ }
+{
+    print(b"  ");
+    print_number(total);
+    print(b" -> ");
+    print_number(activity(total, 2, 10));
+}
+
+// A clip, and sample 10 filtered with it: right 14, left 10, coefficient 11 alone set, to 64.
+fn show_filtered(c: i16)
+    requires { ⌜ natAbs c ≤ 4096 ⌝ }
+{
+    show(c as i32, filtered(10, tap(10, 64, c, 14, 10), 7, 8) as i32);
+}
+
+fn main() {
+    print(b"P1   rounded by shift 7:");
+    show_rounded(-65, 7);
+    show_rounded(-64, 7);
+    show_rounded(63, 7);
+    show_rounded(64, 7);
+    print(b"\nP2   rounded by shift 10:");
+    show_rounded(959, 10);
+    show_rounded(960, 10);
+    print(b"\nP3 ");
+    show_class(0, 0, 0, 0);
+    print(b"P4 ");
+    show_class(10, 2, 4, 4);
+    print(b"P5 ");
+    show_class(9, 2, 4, 4);
+    print(b"P6 ");
+    show_class(3, 3, 8, 1);
+    print(b"P7 ");
+    show_class(5, 0, 7, 0);
+    print(b"P8   activity of V + H, depth 10:");
+    show_activity(3839);
+    show_activity(3840);
+    print(b"\nP12  filtered sample by clip:");
+    show_filtered(256);
+    show_filtered(3);
+    show_filtered(2);
+    print(b"\n");
+}
