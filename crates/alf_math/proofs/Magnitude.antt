@@ -14,7 +14,7 @@ use mir.Syntax.{Width, w16, w32}
 use mir.Val.{Fits, SFits, hbits, toZ, ofZ}
 use mir.Facts.{toZ-ofZ, sfits-widen}
 use mir.ValLaws.{sfits-le}
-use Rattle.alf_spec.specs.Integers.{clip3, clipSample, clippedChange, tap}
+use Rattle.alf_spec.specs.Arithmetic.{clip3, clipSample, clippedChange, tap}
 
 -- ---- magnitudes
 

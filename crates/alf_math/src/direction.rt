@@ -2,7 +2,7 @@
 ghost use mathlib.Core.Path.{_≡_};
 ghost use Prim.Native.Nat.{_+_, _*_, _/_, _^_, _≤_, _<_, min};
 ghost use lib.ListN.{getD};
-ghost use Rattle.alf_spec.specs.Classes.{larger as largerOf, hv, dd, diagonal, strength as strengthOf, activity as activityOf, transposeTable, transposeIdx, filtIdx, mainGradient, otherGradient, classOfSums};
+ghost use Rattle.alf_spec.specs.Classes.{larger as largerOf, diagonal, strength as strengthOf, activity as activityOf, transposeTable, transposeIdx, filtIdx, classOfSums};
 use crate::tables::activity_entry;
 use crate::tables::transpose_entry;
 use alf_spec::Class;

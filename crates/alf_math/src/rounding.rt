@@ -2,7 +2,7 @@
 ghost use mathlib.Core.Path.{_≡_};
 ghost use Prim.Native.Nat.{_-_, _^_, _≤_, _<_};
 ghost use lib.IntN.{natAbs};
-ghost use Rattle.alf_spec.specs.Integers.{clip3, rounded as roundedBy, clipSample, filtered as filteredBy};
+ghost use Rattle.alf_spec.specs.Arithmetic.{clip3, rounded as roundedBy, clipSample, filtered as filteredBy};
 
 // Clip3( low, high, v )
 pub fn clip(low: i32, high: i32, v: i32) -> i32

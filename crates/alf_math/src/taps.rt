@@ -2,7 +2,7 @@
 ghost use mathlib.Core.Path.{_≡_};
 ghost use Prim.Native.Nat.{_≤_, _<_};
 ghost use lib.IntN.{natAbs};
-ghost use Rattle.alf_spec.specs.Integers.{clippedChange, tap as tapOf};
+ghost use Rattle.alf_spec.specs.Arithmetic.{clippedChange, tap as tapOf};
 use crate::rounding::clip;
 
 // How far a sample is from the current one, clipped to −c .. c.

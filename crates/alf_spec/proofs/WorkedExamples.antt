@@ -9,11 +9,11 @@ use lib.IntN.{ℤ, pos, negsuc}
 use lib.ListN.{replicate}
 use Rattle.alf_spec.specs.declared.Class.{Class}
 use Rattle.alf_spec.specs.Lists.{everyFrom, allBelow, elem, sum, sumℤ, tabulate, painted}
-use Rattle.alf_spec.specs.Integers.{clip3, distance, rounded, clipSample, clippedChange, tap, tapSum, filtered}
+use Rattle.alf_spec.specs.Arithmetic.{clip3, distance, rounded, clipSample, clippedChange, tap, tapSum, filtered}
 use Rattle.alf_spec.specs.Input.{Layout, Input}
 use Rattle.alf_spec.specs.Geometry.{Side, before, after, ctbSize, planeOf, lumaPlane, ctbAt, lineRule}
-use Rattle.alf_spec.specs.Boundary.{sliceOf, subpicOf, tileColumnOf, tileRowOf, tileCloses, sliceCloses, subpicCloses, columnSide, rowSide, corner, find, lineRuleAt, virtualRuleAt, sideRuleAt, clipPosition}
-use Rattle.alf_spec.specs.Padding.{columnClip, rowClip, clampedColumn, paddedRow, pastCorner, paddedColumn, read}
+use Rattle.alf_spec.specs.Boundary.{sliceOf, subpicOf, tileColumnOf, tileRowOf, tileDisables, sliceDisables, subpicDisables, columnDisabled, rowDisabled, cornerDisabled, find, lineClip, virtualClip, sideClip, clipPosition}
+use Rattle.alf_spec.specs.Padding.{columnClip, rowClip, pastCorner, paddedColumn, paddedRow, read}
 use Rattle.alf_spec.specs.Parameters.{ctbParam, sliceParam, bankNumber, fixedCoeff}
 use Rattle.alf_spec.specs.Classes.{classWindow, filtH, filtV, filtD0, filtD1, windowRows, windowSum, windowSums, larger, diagonal, mainGradient, otherGradient, strength, activity, transposeIdx, filtIdx, classOfSums, classOf, blockClass}
 use Rattle.alf_spec.specs.Luma.{lumaF, lumaC, tapOrder, lumaRows, lumaPlus, lumaMinus, lumaWith, lumaSample}
@@ -21,7 +21,7 @@ use Rattle.alf_spec.specs.Luma.{lumaF, lumaC, tapOrder, lumaRows, lumaPl
 -- ---- what the examples are about; what 01 leaves open in one is chosen here
 
 -- a picture of n by n CTBs of 32 luma samples, depth 8, in one tile and one subpicture, with the slice switch off
-abbrev layout : ℕ → ℕ → ℕ → List ℕ → Layout
+abbrev pub layout : ℕ → ℕ → ℕ → List ℕ → Layout
 layout n width height slices = record {
   picture = record {
     width = width;
@@ -61,7 +61,7 @@ abbrev class : ℕ → ℕ → Class
 class filter transpose = record { filter = filter; transpose = transpose }
 
 -- 8 by 8 luma samples: at (3, 1) stands 10, right of it 14, left of it 10. Two others give the block the transpose 0.
-abbrev plane : List ℕ
+abbrev pub plane : List ℕ
 plane =
     (10 ∷ 10 ∷ 10 ∷ 10 ∷ 10 ∷ 10 ∷ 10 ∷ 10 ∷ [])
     ++ (10 ∷ 10 ∷ 10 ∷ 10 ∷ 14 ∷ 10 ∷ 10 ∷ 10 ∷ [])
@@ -69,16 +69,16 @@ plane =
     ++ (30 ∷ 10 ∷ 10 ∷ 10 ∷ 10 ∷ 10 ∷ 10 ∷ 10 ∷ [])
     ++ replicate 32 10
 
-abbrev times : {A : Type 0} → ℕ → List A → List A
+abbrev pub times : {A : Type 0} → ℕ → List A → List A
 times zero xs = []
 times (suc n) xs = xs ++ times n xs
 
 -- twelve coefficients of which the last, 11, alone is set, to 64
-abbrev coefficients : List ℤ
+abbrev pub coefficients : List ℤ
 coefficients = replicate 11 (pos 0) ++ (pos 64 ∷ [])
 
 -- that plane, with a luma set and a bank whose luma clips are all c
-abbrev input : ℕ → ℕ → Input
+abbrev pub input : ℕ → ℕ → Input
 input set c = record {
   layout = layout 1 8 8 (0 ∷ []);
   luma = plane;
@@ -121,7 +121,7 @@ pub record WorkedExamples : Type 0 where
   pub P12-fixed : lumaSample (input 0 0) 3 1 ≡ 12
 
 pub worked-examples : WorkedExamples
-unfolding everyFrom allBelow elem sum sumℤ tabulate painted clip3 distance rounded clipSample clippedChange tap tapSum filtered ctbSize planeOf lineRule sliceOf subpicOf tileColumnOf tileRowOf tileCloses sliceCloses subpicCloses columnSide rowSide corner find lineRuleAt virtualRuleAt sideRuleAt clipPosition columnClip rowClip clampedColumn paddedRow pastCorner paddedColumn read ctbParam sliceParam bankNumber fixedCoeff classWindow filtH filtV filtD0 filtD1 windowRows windowSum windowSums larger diagonal mainGradient otherGradient strength activity transposeIdx filtIdx classOfSums classOf blockClass lumaF lumaC tapOrder lumaRows lumaPlus lumaMinus lumaWith lumaSample
+unfolding everyFrom allBelow elem sum sumℤ tabulate painted clip3 distance rounded clipSample clippedChange tap tapSum filtered ctbSize planeOf lineRule sliceOf subpicOf tileColumnOf tileRowOf tileDisables sliceDisables subpicDisables columnDisabled rowDisabled cornerDisabled find lineClip virtualClip sideClip clipPosition columnClip rowClip paddedRow pastCorner paddedColumn read ctbParam sliceParam bankNumber fixedCoeff classWindow filtH filtV filtD0 filtD1 windowRows windowSum windowSums larger diagonal mainGradient otherGradient strength activity transposeIdx filtIdx classOfSums classOf blockClass lumaF lumaC tapOrder lumaRows lumaPlus lumaMinus lumaWith lumaSample
 worked-examples = record {
   P1 = refl;
   P2 = refl;

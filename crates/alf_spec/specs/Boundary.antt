@@ -28,17 +28,17 @@ module _ (l : Layout) (c : Ctb) where
 -- the CTB n lies in another tile, slice or subpicture than c and, respectively, the tile switch, the slice switch or c's own subpicture
 -- switch is off
 module _ (l : Layout) (c n : Ctb) where
-  unfoldable pub tileCloses : Bool
-  tileCloses = not (eqb (tileColumnOf l c) (tileColumnOf l n) && eqb (tileRowOf l c) (tileRowOf l n)) && not (l .picture .«across_tiles»)
+  unfoldable pub tileDisables : Bool
+  tileDisables = not (eqb (tileColumnOf l c) (tileColumnOf l n) && eqb (tileRowOf l c) (tileRowOf l n)) && not (l .picture .«across_tiles»)
 
-  unfoldable pub sliceCloses : Bool
-  sliceCloses = not (eqb (sliceOf l c) (sliceOf l n)) && not (l .picture .«across_slices»)
+  unfoldable pub sliceDisables : Bool
+  sliceDisables = not (eqb (sliceOf l c) (sliceOf l n)) && not (l .picture .«across_slices»)
 
-  unfoldable pub subpicCloses : Bool
-  subpicCloses = not (eqb (subpicOf l c) (subpicOf l n)) && eqb (getD (l .subpicAcross) (subpicOf l c) 0) 0
+  unfoldable pub subpicDisables : Bool
+  subpicDisables = not (eqb (subpicOf l c) (subpicOf l n)) && eqb (getD (l .subpicAcross) (subpicOf l c) 0) 0
 
-  abbrev pub closes : Bool
-  closes = tileCloses || (sliceCloses || subpicCloses)
+  abbrev pub disables : Bool
+  disables = tileDisables || (sliceDisables || subpicDisables)
 
 -- the CTBs next to c along its row, along its column, and up-left or down-right of it
 abbrev pub besideCtb : Side → Ctb → Ctb
@@ -52,14 +52,14 @@ diagonalCtb d c = record { column = next d (c .column); row = next d (c .row) }
 
 -- filtering across the left or right side of a CTB, its top or bottom, and its upper left or lower right corner is disabled
 -- (clipTopLeftFlag, clipBotRightFlag); at the picture's rim there is no CTB across
-unfoldable pub columnSide : Layout → Ctb → Side → Bool
-columnSide l c d = hasNext (ctbColumns l) d (c .column) && closes l c (besideCtb d c)
+unfoldable pub columnDisabled : Layout → Ctb → Side → Bool
+columnDisabled l c d = hasNext (ctbColumns l) d (c .column) && disables l c (besideCtb d c)
 
-unfoldable pub rowSide : Layout → Ctb → Side → Bool
-rowSide l c d = hasNext (ctbRows l) d (c .row) && closes l c (stackedCtb d c)
+unfoldable pub rowDisabled : Layout → Ctb → Side → Bool
+rowDisabled l c d = hasNext (ctbRows l) d (c .row) && disables l c (stackedCtb d c)
 
-unfoldable pub corner : Layout → Ctb → Side → Bool
-corner l c d = hasNext (ctbColumns l) d (c .column) && (hasNext (ctbRows l) d (c .row) && sliceCloses l c (diagonalCtb d c))
+unfoldable pub cornerDisabled : Layout → Ctb → Side → Bool
+cornerDisabled l c d = hasNext (ctbColumns l) d (c .column) && (hasNext (ctbRows l) d (c .row) && sliceDisables l c (diagonalCtb d c))
 
 -- ---- clip positions
 
@@ -81,27 +81,27 @@ abbrev pub near : Side → ℕ → ℕ → Bool
 near before x v = leb v x && leb (x - v) 2
 near after x v = ltb x v && leb (v - x) 4
 
--- the rules, in 01's words, at the position x along an axis; `closed` says which sides of its CTB are
+-- the rules, in 01's words, at the position x along an axis; `disabled` says across which sides of its CTB filtering is
 module _ (a : Axis) (x : ℕ) where
   -- the line lies 4 luma rows above the CTB's bottom
   abbrev pub linePosition : ℕ
   linePosition = ctbStart a x + (a .ctb - 4)
 
   -- the line if y ≥ S − 4; the line if it is 1 to 4 below
-  unfoldable pub lineRuleAt : Side → Option ℕ
-  lineRuleAt before = only (a .hasLine && leb (a .ctb - 4) (inCtb a x)) linePosition
-  lineRuleAt after = only (a .hasLine && near after x linePosition) linePosition
+  unfoldable pub lineClip : Side → Option ℕ
+  lineClip before = only (a .hasLine && leb (a .ctb - 4) (inCtb a x)) linePosition
+  lineClip after = only (a .hasLine && near after x linePosition) linePosition
 
   -- (1511) to (1514): a virtual row 0 to 2 rows above or at the sample; a virtual row 1 to 4 below
-  unfoldable pub virtualRuleAt : Side → Option ℕ
-  virtualRuleAt d = find (near d x) (a .virtualBoundaries)
+  unfoldable pub virtualClip : Side → Option ℕ
+  virtualClip d = find (near d x) (a .virtualBoundaries)
 
   -- the CTB top if y < 3 and that side is closed; the CTB bottom if S − y < 5 and that side is closed
-  unfoldable pub sideRuleAt : (Side → Bool) → Side → Option ℕ
-  sideRuleAt closed before = only (ltb (inCtb a x) 3 && closed before) (ctbStart a x)
-  sideRuleAt closed after = only (ltb (a .ctb - inCtb a x) 5 && closed after) (ctbStart a x + a .ctb)
+  unfoldable pub sideClip : (Side → Bool) → Side → Option ℕ
+  sideClip disabled before = only (ltb (inCtb a x) 3 && disabled before) (ctbStart a x)
+  sideClip disabled after = only (ltb (a .ctb - inCtb a x) 5 && disabled after) (ctbStart a x + a .ctb)
 
   -- clipTopPos or clipLeftPos, clipBottomPos or clipRightPos, where there is one
   unfoldable pub clipPosition : (Side → Bool) → Side → Option ℕ
-  clipPosition closed before = lineRuleAt before orElse virtualRuleAt before orElse sideRuleAt closed before
-  clipPosition closed after = virtualRuleAt after orElse lineRuleAt after orElse sideRuleAt closed after
+  clipPosition disabled before = lineClip before orElse virtualClip before orElse sideClip disabled before
+  clipPosition disabled after = virtualClip after orElse lineClip after orElse sideClip disabled after

@@ -4,7 +4,7 @@ use mathlib.Core.List.{List, [], _∷_, map}
 use Prim.Native.Nat.{ℕ, _+_, _-_, _/_}
 use lib.Dec.{eqb}
 use Rattle.alf_spec.specs.declared.ChromaRows.{ChromaRows}
-use Rattle.alf_spec.specs.Integers.{tapSum, filtered}
+use Rattle.alf_spec.specs.Arithmetic.{tapSum, filtered}
 use Rattle.alf_spec.specs.Input.{Input}
 use Rattle.alf_spec.specs.Geometry.{Axis, Plane, chromaPlane, lumaPosition, inCtb, ctbAt, lineRule}
 use Rattle.alf_spec.specs.Padding.{read}

@@ -9,7 +9,7 @@ use Rattle.alf_spec.specs.declared.Sums.{Sums}
 use Rattle.alf_spec.specs.declared.Gradient.{Gradient}
 use Rattle.alf_spec.specs.declared.Class.{Class}
 use Rattle.alf_spec.specs.Lists.{sum, tabulate}
-use Rattle.alf_spec.specs.Integers.{distance}
+use Rattle.alf_spec.specs.Arithmetic.{distance}
 use Rattle.alf_spec.specs.Input.{Layout}
 use Rattle.alf_spec.specs.Geometry.{inCtb, lineRule, lumaPlane}
 use Rattle.alf_spec.specs.Padding.{read}

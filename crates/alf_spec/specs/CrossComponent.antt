@@ -8,7 +8,7 @@ use lib.Dec.{eqb}
 use lib.ListN.{getD}
 use Rattle.alf_spec.specs.declared.CrossRows.{CrossRows}
 use Rattle.alf_spec.specs.Lists.{sumℤ}
-use Rattle.alf_spec.specs.Integers.{clip3, rounded, clipSample}
+use Rattle.alf_spec.specs.Arithmetic.{clip3, rounded, clipSample}
 use Rattle.alf_spec.specs.Input.{Input}
 use Rattle.alf_spec.specs.Geometry.{lumaPlane, chromaPlane, lumaPosition, indexOf, inCtb, ctbAt, lineRule}
 use Rattle.alf_spec.specs.Padding.{read}

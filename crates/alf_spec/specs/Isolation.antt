@@ -8,32 +8,32 @@ use Rattle.alf_spec.specs.Lists.{implies, allBelow, elem, tabulate}
 use Rattle.alf_spec.specs.declared.Ctb.{Ctb}
 use Rattle.alf_spec.specs.Input.{Layout, Operation, classes, luma, chroma, crossComponent}
 use Rattle.alf_spec.specs.Geometry.{Side, before, after, sameSide, next, gap, hasNext, Axis, Plane, lumaPlane, chromaPlane, lumaPosition, columnOf, rowOf, ctbAt}
-use Rattle.alf_spec.specs.Boundary.{sliceOf, subpicOf, tileColumnOf, tileRowOf, sliceCloses, columnSide, rowSide}
+use Rattle.alf_spec.specs.Boundary.{sliceOf, subpicOf, tileColumnOf, tileRowOf, sliceDisables, columnDisabled, rowDisabled}
 use Rattle.alf_spec.specs.Process.{classColumns}
 
 -- ---- steps, judged at the sample that they leave
 
 -- a step along an axis to the place next to x: the picture's rim has no step, and a step is shut on a virtual boundary and across a side of
--- the CTB that is closed
+-- the CTB that is disabled
 unfoldable pub openStep : Axis → (Side → Bool) → Side → ℕ → Bool
-openStep a closed d x =
+openStep a disabled d x =
     hasNext (a .size) d x
     && (not (elem (gap d x) (a .virtualBoundaries))
-    && (eqb (x / a .ctb) (next d x / a .ctb) || not (closed d)))
+    && (eqb (x / a .ctb) (next d x / a .ctb) || not (disabled d)))
 
 module _ (l : Layout) (x y : ℕ) where
   unfoldable pub columnStep : Side → Bool
-  columnStep d = openStep (lumaPlane l .columns) (columnSide l (ctbAt (lumaPlane l) x y)) d x
+  columnStep d = openStep (lumaPlane l .columns) (columnDisabled l (ctbAt (lumaPlane l) x y)) d x
 
   unfoldable pub rowStep : Side → Bool
-  rowStep e = openStep (lumaPlane l .rows) (rowSide l (ctbAt (lumaPlane l) x y)) e y
+  rowStep e = openStep (lumaPlane l .rows) (rowDisabled l (ctbAt (lumaPlane l) x y)) e y
 
   -- a diagonal step is shut if either side step from the same sample is, or if it goes up-left or down-right into another slice with the
   -- slice switch off
   unfoldable pub diagonalStep : Side → Side → Bool
   diagonalStep d e =
       columnStep d && (rowStep e
-      && not (sameSide d e && sliceCloses l (ctbAt (lumaPlane l) x y) (ctbAt (lumaPlane l) (next d x) (next e y))))
+      && not (sameSide d e && sliceDisables l (ctbAt (lumaPlane l) x y) (ctbAt (lumaPlane l) (next d x) (next e y))))
 
 -- ---- regions
 

@@ -1,6 +1,6 @@
 -- What the proofs of this repository are about. Read in this order, beside H.266 8.8.5 and paper 01.
 pub mod Lists
-pub mod Integers
+pub mod Arithmetic
 pub mod Input
 pub mod Geometry
 pub mod Boundary

@@ -6,7 +6,7 @@ use lib.IntN.{ℤ, pos}
 use lib.Dec.{eqb, ltb}
 use lib.ListN.{getD}
 use Rattle.alf_spec.specs.declared.LumaRows.{LumaRows}
-use Rattle.alf_spec.specs.Integers.{tapSum, filtered}
+use Rattle.alf_spec.specs.Arithmetic.{tapSum, filtered}
 use Rattle.alf_spec.specs.declared.Ctb.{Ctb}
 use Rattle.alf_spec.specs.declared.Class.{Class}
 use Rattle.alf_spec.specs.Input.{Input}

@@ -8,7 +8,7 @@ use lib.Dec.{leb, ltb}
 use lib.ListN.{getD}
 use Rattle.alf_spec.specs.Input.{Layout}
 use Rattle.alf_spec.specs.Geometry.{Side, before, after, Axis, Plane, samples, lumaPosition, indexOf, ctbStart, ctbAt}
-use Rattle.alf_spec.specs.Boundary.{columnSide, rowSide, corner, clipPosition}
+use Rattle.alf_spec.specs.Boundary.{columnDisabled, rowDisabled, cornerDisabled, clipPosition}
 
 abbrev pub isNone : Option ℕ → Bool
 isNone none = true
@@ -42,25 +42,25 @@ module _ (a : Axis) where
 -- the sample that is filtered: a plane's, at column x and row y
 module _ (l : Layout) (g : Plane) (x y : ℕ) where
   unfoldable pub columnClip : Side → Option ℕ
-  columnClip = clipPosition (g .columns) (lumaPosition (g .columns) x) (columnSide l (ctbAt g x y))
+  columnClip = clipPosition (g .columns) (lumaPosition (g .columns) x) (columnDisabled l (ctbAt g x y))
 
   unfoldable pub rowClip : Side → Option ℕ
-  rowClip = clipPosition (g .rows) (lumaPosition (g .rows) y) (rowSide l (ctbAt g x y))
+  rowClip = clipPosition (g .rows) (lumaPosition (g .rows) y) (rowDisabled l (ctbAt g x y))
 
   -- its neighbour at column p and row q. Positions are never negative: x − 3 is 0 where x is below 3, as (1464) has it.
   module _ (p q : ℕ) where
-    unfoldable pub clampedColumn : ℕ
+    abbrev pub clampedColumn : ℕ
     clampedColumn = clamped (g .columns) columnClip p
 
-    unfoldable pub paddedRow : ℕ
-    paddedRow = clamped (g .rows) rowClip q
+    abbrev pub clampedRow : ℕ
+    clampedRow = clamped (g .rows) rowClip q
 
     -- 01: where top and left have no edge, the slice switch is off and the upper-left CTB is of another slice, a neighbour left of and
     -- above the CTB; the lower right likewise
     unfoldable pub pastCorner : Side → Bool
     pastCorner d =
         pastCtb (g .columns) d x clampedColumn
-        && (pastCtb (g .rows) d y paddedRow && (isNone (columnClip d) && (isNone (rowClip d) && corner l (ctbAt g x y) d)))
+        && (pastCtb (g .rows) d y clampedRow && (isNone (columnClip d) && (isNone (rowClip d) && cornerDisabled l (ctbAt g x y) d)))
 
     -- it moves to the CTB's first column, or last, same row
     unfoldable pub paddedColumn : ℕ
@@ -68,6 +68,9 @@ module _ (l : Layout) (g : Plane) (x y : ℕ) where
         cond (pastCorner before) (ctbRim (g .columns) before x)
         (cond (pastCorner after) (ctbRim (g .columns) after x)
         clampedColumn)
+
+    unfoldable pub paddedRow : ℕ
+    paddedRow = clampedRow
 
   unfoldable pub read : List ℕ → ℕ → ℕ → ℕ
   read plane p q = getD plane (indexOf g (paddedColumn p q) (paddedRow p q)) 0

@@ -6,7 +6,7 @@ use lib.IntN.{pos, natAbs}
 use mir.Syntax.{w32}
 use mir.Val.{toZ, ofZ}
 use borrow.Author.Needs.{needs}
-use Rattle.alf_spec.specs.Integers.{tap}
+use Rattle.alf_spec.specs.Arithmetic.{tap}
 use Rattle.alf_math.proofs.Magnitude.{back, abs-tap, widened, words, returned}
 use Rattle.worked_examples.proofs.show_filtered.Statement.{statement}
 use Rattle.worked_examples.proofs.show_filtered.Tie as tie

@@ -6,7 +6,7 @@ use lib.IntN.{pos, natAbs, _+ℤ_}
 use mir.Syntax.{w32}
 use mir.Val.{toZ, ofZ}
 use borrow.Author.Needs.{needs}
-use Rattle.alf_spec.specs.Integers.{rounded}
+use Rattle.alf_spec.specs.Arithmetic.{rounded}
 use Rattle.alf_math.proofs.Magnitude.{abs-add, abs-shr, words, returned}
 use Rattle.worked_examples.proofs.show_rounded.Statement.{statement}
 use Rattle.worked_examples.proofs.show_rounded.Tie as tie

@@ -1,6 +1,6 @@
 -- `alf_math::rounding::clip` meets its contract: each way returns what its tests pick. Assumes nothing.
 use mir.Facts.{toZ-ofZ}
-use Rattle.alf_spec.specs.Integers.{clip3}
+use Rattle.alf_spec.specs.Arithmetic.{clip3}
 use Rattle.alf_math.proofs.rounding.clip.Statement.{statement}
 use Rattle.alf_math.proofs.rounding.clip.Tie as tie
 

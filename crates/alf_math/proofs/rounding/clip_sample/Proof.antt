@@ -7,7 +7,7 @@ use mir.Facts.{toZ-ofZ}
 use mir.Syntax.{w32}
 use mir.Val.{toZ, ofZ}
 use borrow.Author.Needs.{needs}
-use Rattle.alf_spec.specs.Integers.{clip3, clipSample}
+use Rattle.alf_spec.specs.Arithmetic.{clip3, clipSample}
 use Rattle.alf_math.proofs.Magnitude.{back, returned, clip-level}
 use Rattle.alf_math.proofs.rounding.clip_sample.Statement.{statement}
 use Rattle.alf_math.proofs.rounding.clip_sample.Tie as tie

@@ -6,7 +6,7 @@ use lib.IntN.{pos, _+ℤ_}
 use mir.Syntax.{w32}
 use mir.Val.{SFits, toZ, ofZ}
 use borrow.Author.Needs.{needs}
-use Rattle.alf_spec.specs.Integers.{rounded, filtered}
+use Rattle.alf_spec.specs.Arithmetic.{rounded, filtered}
 use Rattle.alf_math.proofs.Magnitude.{abs-add, abs-shr, fits-abs, words, returned}
 use Rattle.alf_math.proofs.rounding.filtered.Statement.{statement}
 use Rattle.alf_math.proofs.rounding.filtered.Tie as tie

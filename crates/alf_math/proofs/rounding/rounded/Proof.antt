@@ -5,7 +5,7 @@ use lib.IntN.{ℤ, pos, _+ℤ_}
 use mir.Facts.{toZ-ofZ}
 use mir.Syntax.{w32}
 use mir.Val.{SFits}
-use Rattle.alf_spec.specs.Integers.{rounded}
+use Rattle.alf_spec.specs.Arithmetic.{rounded}
 use Rattle.alf_math.proofs.Magnitude.{abs-add, fits-abs, fits-shr}
 use Rattle.alf_math.proofs.rounding.rounded.Statement.{statement}
 use Rattle.alf_math.proofs.rounding.rounded.Tie as tie

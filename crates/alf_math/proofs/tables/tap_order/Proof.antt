@@ -3,7 +3,7 @@ use borrow.Author.Needs.{needs}
 use mathlib.Core.Path.{refl}
 use native.Mathlib.Omega.{arith}
 use Rattle.alf_spec.specs.Luma.{tapOrder}
-use Rattle.alf_math.proofs.TapOrder.{each-below}
+use Rattle.alf_spec.proofs.TapOrder.{each-below}
 use Rattle.alf_math.proofs.tables.tap_order.Statement.{statement}
 use Rattle.alf_math.proofs.tables.tap_order.Tie as tie
 

@@ -4,7 +4,7 @@ use lib.IntN.{pos, negℤ, _-ℤ_, +ℤ-idl}
 use mir.Syntax.{w32}
 use mir.Val.{SFits}
 use borrow.Author.Needs.{needs}
-use Rattle.alf_spec.specs.Integers.{clippedChange}
+use Rattle.alf_spec.specs.Arithmetic.{clippedChange}
 use Rattle.alf_math.proofs.Magnitude.{abs-sub, abs-neg, fits-abs, widened, words, returned}
 use Rattle.alf_math.proofs.taps.clipped_change.Statement.{statement}
 use Rattle.alf_math.proofs.taps.clipped_change.Tie as tie

@@ -1,17 +1,25 @@
 -- Each row of the tap order is a permutation of 0, .., 11: one test over the table, and what it says of a row and of an entry.
 -- Assumes nothing.
 use mathlib.Core.Path.{_≡_, refl}
-use mathlib.Core.Bool.{Bool, true}
-use mathlib.Core.List.{List, []}
-use Prim.Native.Nat.{ℕ, _<_}
+use mathlib.Core.Bool.{Bool, true, _&&_, cond}
+use mathlib.Core.List.{List, [], _∷_}
+use Prim.Native.Nat.{ℕ, suc, _<_}
 use native.Mathlib.Omega.{arith}
 use lib.Dec.{eqb, ltb}
 use lib.ListN.{length, getD}
 use borrow.Author.Tests.{ltb-true, eqb-true}
 use Rattle.alf_spec.specs.Lists.{allBelow, everyFrom, every}
 use Rattle.alf_spec.specs.Luma.{tapOrderTable, tapOrder}
 use Rattle.alf_spec.proofs.Tests.{both, all-at, every-at}
-use Rattle.alf_math.specs.Permutation.{count, isPermutation}
+
+-- how often v stands in a list
+unfoldable pub count : ℕ → List ℕ → ℕ
+count v [] = 0
+count v (x ∷ xs) = cond (eqb v x) (suc (count v xs)) (count v xs)
+
+-- n entries, each below n, and each number below n once
+unfoldable pub isPermutation : ℕ → List ℕ → Bool
+isPermutation n list = eqb (length list) n && (every (λ x. ltb x n) list && allBelow n (λ v. eqb (count v list) 1))
 
 pub tap-order-test : every (isPermutation 12) tapOrderTable ≡ true
 unfolding everyFrom allBelow isPermutation count

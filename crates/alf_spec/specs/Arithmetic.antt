@@ -1,4 +1,4 @@
--- The functions of H.266 clause 5 on integers that the filters use. Assumes nothing.
+-- Clip3, Abs and the rounding shift, and the taps that luma and chroma share. Assumes nothing.
 use mathlib.Core.Bool.{cond}
 use mathlib.Core.List.{List}
 use Prim.Native.Nat.{ℕ, _+_, _-_, _^_}

@@ -1,0 +1,96 @@
+-- Small pictures worked out by the definitions: every operation, with rows on both sides of the line-buffer boundary. The numbers were
+-- found by a model written from H.266 and paper 01 alone. Assumes nothing.
+use mathlib.Core.Path.{_≡_, refl}
+use mathlib.Core.Bool.{Bool, true, false, _&&_, _||_, cond}
+use mathlib.Core.List.{List, [], _∷_, _++_, map}
+use Prim.Native.Nat.{ℕ, zero, suc, _+_, _-_, _*_, _/_, _%_}
+use lib.IntN.{ℤ, pos, _-ℤ_}
+use lib.ListN.{replicate}
+use Rattle.alf_spec.specs.Input.{Layout, Input, classes, luma, chroma, crossComponent}
+use Rattle.alf_spec.specs.Lists.{allBelow, everyFrom, elem, sum, sumℤ, tabulate, painted}
+use Rattle.alf_spec.specs.Arithmetic.{clip3, distance, rounded, clipSample, clippedChange, tap, tapSum, filtered}
+use Rattle.alf_spec.specs.Geometry.{ctbSize, subWidth, subHeight, planeOf, lineRule}
+use Rattle.alf_spec.specs.Boundary.{sliceOf, subpicOf, tileColumnOf, tileRowOf, tileDisables, sliceDisables, subpicDisables, columnDisabled, rowDisabled, cornerDisabled, find, lineClip, virtualClip, sideClip, clipPosition}
+use Rattle.alf_spec.specs.Padding.{columnClip, rowClip, pastCorner, paddedColumn, paddedRow, read}
+use Rattle.alf_spec.specs.Parameters.{ctbParam, sliceParam, bankNumber, fixedCoeff}
+use Rattle.alf_spec.specs.Classes.{classWindow, filtH, filtV, filtD0, filtD1, windowRows, windowSum, windowSums, larger, diagonal, mainGradient, otherGradient, strength, activity, transposeIdx, filtIdx, classOfSums, classOf, blockClass}
+use Rattle.alf_spec.specs.Luma.{lumaF, lumaC, tapOrder, lumaRows, lumaPlus, lumaMinus, lumaWith, lumaSample}
+use Rattle.alf_spec.specs.Chroma.{chromaRows, chromaPlus, chromaMinus, rowsBelow, chromaWith, chromaSample}
+use Rattle.alf_spec.specs.CrossComponent.{crossRows, crossTaps, crossSum, corrected, crossWith, crossSample}
+use Rattle.alf_spec.specs.Process.{classAt, classMap, isFiltered, filteredPlane, result}
+use Rattle.alf_spec.specs.Faults.{pictureSizeValid, ctbSizeValid, bitDepthValid, chromaFormatValid, componentValid, layoutLengthsValid, filterLengthsValid, fixedLengthsValid, lengthsValid, apartAt, virtualListValid, virtualBoundariesValid, followsAt, tileListValid, tilesValid, cornerAt, cornersInRow, cornersValid, slicesValid, subpicturesValid, sliceParamsValid, ctbRangesValid, ctbChromaZero, ctbParamsValidAt, parametersValid, coeffValid, clipValid, isClip, bankNumberValid, bankValid, fixedValid, samplesValid, addressesValid, unless, layoutFault, filterFault, tablesFault, fault}
+use Rattle.alf_spec.proofs.WorkedExamples.{input}
+
+-- ---- one CTB of 32 by 32 in 4:2:0, depth 10, with a texture
+
+abbrev countFrom : ℕ → ℕ → List ℕ
+countFrom k zero = []
+countFrom k (suc n) = k ∷ countFrom (suc k) n
+
+abbrev texture : ℕ → ℕ → List ℕ
+texture width n = map (λ k. 300 + (k % width * 53 + k / width * 11 + k % width * (k / width) * 7) % 95) (countFrom 0 n)
+
+abbrev ctb32 : Input
+ctb32 = record {
+  layout = record {
+    picture = record {
+      width = 32;
+      height = 32;
+      «ctb_log2» = 5;
+      «bit_depth» = 10;
+      «chroma_format» = 1;
+      «slice_count» = 1;
+      «across_tiles» = true;
+      «across_slices» = true;
+    };
+    virtualColumns = [];
+    virtualRows = [];
+    tileColumns = 0 ∷ [];
+    tileRows = 0 ∷ [];
+    sliceMap = 0 ∷ [];
+    subpicMap = 0 ∷ [];
+    subpicAcross = replicate 64 1;
+  };
+  luma = texture 32 1024;
+  chroma = texture 16 256;
+  sliceParams = 2 ∷ 6 ∷ 1 ∷ 0 ∷ 0 ∷ 0 ∷ 0 ∷ 0 ∷ 4 ∷ 2 ∷ 7 ∷ [];
+  bank = map (λ k. cond (isClip (k % 752)) (pos (5 * k % 401)) (pos (k * 7 % 41) -ℤ pos 20)) (countFrom 0 6016);
+  ctbParams = 1 ∷ 1 ∷ 1 ∷ 17 ∷ 3 ∷ 5 ∷ 2 ∷ 4 ∷ [];
+  ctbList = 0 ∷ [];
+  fixedFilters = replicate 768 (pos 0);
+  fixedMap = replicate 400 0;
+  outputLength = 256;
+}
+
+pub record SmallPictures : Type 0 where
+  -- P12's picture is accepted, and whole: its classes, and its luma plane filtered with clip 3
+  pub accepted : fault luma (input 16 3) ≡ 0
+  pub class-map : result classes (input 16 3) ≡ 17 ∷ 96 ∷ 17 ∷ 84 ∷ []
+  pub luma-plane : result luma (input 16 3)
+      ≡ (10 ∷ 10 ∷ 10 ∷ 10 ∷ 12 ∷ 10 ∷ 10 ∷ 10 ∷ [])
+      ++ (10 ∷ 10 ∷ 10 ∷ 12 ∷ 11 ∷ 10 ∷ 10 ∷ 10 ∷ [])
+      ++ (29 ∷ 12 ∷ 10 ∷ 10 ∷ 12 ∷ 10 ∷ 10 ∷ 10 ∷ [])
+      ++ (29 ∷ 12 ∷ 10 ∷ 10 ∷ 10 ∷ 10 ∷ 10 ∷ 10 ∷ [])
+      ++ replicate 32 10
+  -- of the texture: the classes of three blocks, one above the other, at column 8 and rows 20, 24 and 28
+  pub line-classes : map (classAt (ctb32 .layout) (ctb32 .luma)) (42 ∷ 50 ∷ 58 ∷ []) ≡ 67 ∷ 100 ∷ 35 ∷ []
+  -- luma at column 9, rows 23 to 31; chroma and cross-component at column 3, rows 10 to 15
+  pub line-luma : map (lumaSample ctb32 9) (countFrom 23 9) ≡ 394 ∷ 369 ∷ 346 ∷ 357 ∷ 308 ∷ 380 ∷ 380 ∷ 327 ∷ 303 ∷ []
+  pub line-chroma : map (chromaSample ctb32 0 3) (countFrom 10 6) ≡ 288 ∷ 334 ∷ 397 ∷ 303 ∷ 335 ∷ 376 ∷ []
+  pub line-cross : map (crossSample ctb32 1 3) (countFrom 10 6) ≡ 306 ∷ 327 ∷ 368 ∷ 300 ∷ 344 ∷ 379 ∷ []
+  pub chroma-accepted : fault (chroma 0) ctb32 ≡ 0
+  pub cross-accepted : fault (crossComponent 1) ctb32 ≡ 0
+
+pub small-pictures : SmallPictures
+unfolding allBelow everyFrom elem sum sumℤ tabulate painted clip3 distance rounded clipSample clippedChange tap tapSum filtered ctbSize subWidth subHeight planeOf lineRule sliceOf subpicOf tileColumnOf tileRowOf tileDisables sliceDisables subpicDisables columnDisabled rowDisabled cornerDisabled find lineClip virtualClip sideClip clipPosition columnClip rowClip paddedRow pastCorner paddedColumn read ctbParam sliceParam bankNumber fixedCoeff classWindow filtH filtV filtD0 filtD1 windowRows windowSum windowSums larger diagonal mainGradient otherGradient strength activity transposeIdx filtIdx classOfSums classOf blockClass lumaF lumaC tapOrder lumaRows lumaPlus lumaMinus lumaWith lumaSample chromaRows chromaPlus chromaMinus rowsBelow chromaWith chromaSample crossRows crossTaps crossSum corrected crossWith crossSample classAt classMap isFiltered filteredPlane result pictureSizeValid ctbSizeValid bitDepthValid chromaFormatValid componentValid layoutLengthsValid filterLengthsValid fixedLengthsValid lengthsValid apartAt virtualListValid virtualBoundariesValid followsAt tileListValid tilesValid cornerAt cornersInRow cornersValid slicesValid subpicturesValid sliceParamsValid ctbRangesValid ctbChromaZero ctbParamsValidAt parametersValid coeffValid clipValid isClip bankNumberValid bankValid fixedValid samplesValid addressesValid unless layoutFault filterFault tablesFault fault
+small-pictures = record {
+  accepted = refl;
+  class-map = refl;
+  luma-plane = refl;
+  line-classes = refl;
+  line-luma = refl;
+  line-chroma = refl;
+  line-cross = refl;
+  chroma-accepted = refl;
+  cross-accepted = refl;
+}
