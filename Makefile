@@ -1,0 +1,23 @@
+# The two commands of the README, and what a developer runs between them.
+.PHONY: help demo test check fmt
+
+help:
+	@echo "make demo    prove what the worked examples need, and run them"
+	@echo "make test    every proof from nothing, every must-fail edit, every program: the gate"
+	@echo "make check   what changed since the last check, without the must-fail edits"
+	@echo "make fmt     lay the sources out"
+
+demo:
+	@echo "Proving alf_spec, alf_math and worked_examples (the first time about a minute) ..."
+	@rt check worked_examples > target-demo.log 2>&1 || { cat target-demo.log; rm -f target-demo.log; exit 1; }
+	@rm -f target-demo.log
+	@./target/bin/worked_examples
+
+test:
+	@scripts/test.sh
+
+check:
+	rt check
+
+fmt:
+	rt fmt

@@ -1,0 +1,42 @@
+#!/usr/bin/env bash
+# Every test of the repository. The last line is 'N passed, M failed'; the exit status is 0 only where M is 0 and something passed.
+set -u -o pipefail
+cd "$(dirname "$0")/.." || exit 2
+passed=0
+failed=0
+log=$(mktemp)
+trap 'rm -f "$log"' EXIT
+
+# A part that is one test: it passes where the command does.
+single() {
+    local name=$1
+    shift
+    echo "== $name"
+    if "$@"; then passed=$((passed + 1)); else failed=$((failed + 1)); echo "FAILED: $name"; fi
+}
+
+# A part that counts for itself: the last line of the command's output is 'N passed, M failed'. It is shown but for that line, since the
+# sum is printed at the end. A part with no such line, or that ends with another status than its count says, has failed.
+counted() {
+    local name=$1 status last
+    shift
+    echo "== $name"
+    "$@" 2>&1 | tee "$log" | grep --line-buffered -vE '^[0-9]+ passed, [0-9]+ failed$'
+    status=${PIPESTATUS[0]}
+    last=$(tail -n 1 "$log")
+    if [[ $last =~ ^([0-9]+)\ passed,\ ([0-9]+)\ failed$ ]]; then
+        echo "== $name: ${BASH_REMATCH[1]} of $((BASH_REMATCH[1] + BASH_REMATCH[2]))"
+        passed=$((passed + BASH_REMATCH[1]))
+        failed=$((failed + BASH_REMATCH[2]))
+        if [[ $status -ne 0 && ${BASH_REMATCH[2]} -eq 0 ]]; then failed=$((failed + 1)); fi
+    else
+        echo "FAILED: $name gave no count (exit status $status)"
+        failed=$((failed + 1))
+    fi
+}
+
+single "layout of the sources" rt fmt --check
+counted "proofs, must-fail edits and programs" rt ci
+
+echo "$passed passed, $failed failed"
+[[ $failed -eq 0 && $passed -gt 0 ]]
