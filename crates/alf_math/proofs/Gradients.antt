@@ -1,10 +1,9 @@
 -- Bounds of what the direction test works out. Assumes nothing.
 use mathlib.Core.Path.{_≡_, refl}
 use mathlib.Core.Bool.{Bool, true, false, cond}
-use Prim.Native.Nat.{ℕ, _+_, _*_, _/_, _^_, _-_, _<_, _≤_, min}
+use Prim.Native.Nat.{ℕ, _*_, _/_, _^_, _-_, _<_, min}
 use native.Mathlib.Omega.{arith}
 use lib.Dec.{ltb}
-use lib.ListN.{getD}
 use borrow.Author.Tests.{ltb-true}
 use Rattle.alf_spec.specs.declared.Sums.{Sums}
 use Rattle.alf_spec.specs.declared.Gradient.{Gradient}

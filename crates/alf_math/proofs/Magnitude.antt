@@ -7,14 +7,13 @@ use native.Mathlib.Nat.{le-refl, lt-of-le-of-lt, mul-le-mul, div-le-self}
 use native.Mathlib.Omega.{arith}
 use borrow.Author.Tests.{ltb-true, ltb-false}
 use lib.Dec.{T, ltb}
-use lib.Pow.{pow-pos}
 use lib.IntN.{ℤ, pos, negsuc, negℤ, natAbs, _+ℤ_, _-ℤ_, _*ℤ_}
 use lib.Signed.{mag, ltZ, nonNeg, shrZ, mag-shr}
 use mir.Syntax.{Width, w16, w32}
 use mir.Val.{Fits, SFits, hbits, toZ, ofZ}
 use mir.Facts.{toZ-ofZ, sfits-widen}
 use mir.ValLaws.{sfits-le}
-use Rattle.alf_spec.specs.Arithmetic.{clip3, clipSample, clippedChange, tap}
+use Rattle.alf_spec.specs.Arithmetic.{clip3, clippedChange, tap}
 
 -- ---- magnitudes
 

@@ -1,12 +1,12 @@
 -- Small pictures worked out by the definitions: every operation, with rows on both sides of the line-buffer boundary. The numbers were
 -- found by a model written from H.266 and paper 01 alone. Assumes nothing.
 use mathlib.Core.Path.{_≡_, refl}
-use mathlib.Core.Bool.{Bool, true, false, _&&_, _||_, cond}
+use mathlib.Core.Bool.{true, cond}
 use mathlib.Core.List.{List, [], _∷_, _++_, map}
-use Prim.Native.Nat.{ℕ, zero, suc, _+_, _-_, _*_, _/_, _%_}
-use lib.IntN.{ℤ, pos, _-ℤ_}
+use Prim.Native.Nat.{ℕ, zero, suc, _+_, _*_, _/_, _%_}
+use lib.IntN.{pos, _-ℤ_}
 use lib.ListN.{replicate}
-use Rattle.alf_spec.specs.Input.{Layout, Input, classes, luma, chroma, crossComponent}
+use Rattle.alf_spec.specs.Input.{Input, classes, luma, chroma, crossComponent}
 use Rattle.alf_spec.specs.Lists.{allBelow, everyFrom, elem, sum, sumℤ, tabulate, painted}
 use Rattle.alf_spec.specs.Arithmetic.{clip3, distance, rounded, clipSample, clippedChange, tap, tapSum, filtered}
 use Rattle.alf_spec.specs.Geometry.{ctbSize, subWidth, subHeight, planeOf, lineRule}

@@ -3,7 +3,7 @@
 use mathlib.Core.Bool.{Bool, true, false, not, _&&_, _||_}
 use mathlib.Core.List.{List, [], _∷_}
 use mathlib.Core.Option.{Option, some, none}
-use Prim.Native.Nat.{ℕ, _+_, _-_, _/_}
+use Prim.Native.Nat.{ℕ, _+_, _-_}
 use lib.Dec.{eqb, leb, ltb}
 use lib.ListN.{getD}
 use Rattle.alf_spec.specs.declared.Ctb.{Ctb}
@@ -12,6 +12,7 @@ use Rattle.alf_spec.specs.Geometry.{Side, before, after, next, hasNext, 
 
 -- ---- sides
 
+-- the slice, subpicture and tile of a CTB
 module _ (l : Layout) (c : Ctb) where
   unfoldable pub sliceOf : ℕ
   sliceOf = getD (l .sliceMap) (address l c) 0

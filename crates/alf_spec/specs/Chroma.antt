@@ -6,7 +6,7 @@ use lib.Dec.{eqb}
 use Rattle.alf_spec.specs.declared.ChromaRows.{ChromaRows}
 use Rattle.alf_spec.specs.Arithmetic.{tapSum, filtered}
 use Rattle.alf_spec.specs.Input.{Input}
-use Rattle.alf_spec.specs.Geometry.{Axis, Plane, chromaPlane, lumaPosition, inCtb, ctbAt, lineRule}
+use Rattle.alf_spec.specs.Geometry.{Axis, chromaPlane, lumaPosition, inCtb, ctbAt, lineRule}
 use Rattle.alf_spec.specs.Padding.{read}
 use Rattle.alf_spec.specs.Parameters.{chromaAps, chromaAlternative, chromaCoeff, chromaClip}
 

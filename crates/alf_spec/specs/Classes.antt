@@ -1,5 +1,5 @@
 -- 8.8.5.3, derivation of the filter index (class) and the transpose of a 4 by 4 luma block. Assumes nothing.
-use mathlib.Core.Bool.{Bool, true, false, _&&_, cond}
+use mathlib.Core.Bool.{Bool, _&&_, cond}
 use mathlib.Core.List.{List, [], _∷_}
 use Prim.Native.Nat.{ℕ, _+_, _-_, _*_, _/_, _%_, _^_, min}
 use lib.Dec.{eqb, ltb}
@@ -38,8 +38,7 @@ module _ (window : List ℕ) where
   unfoldable pub filtD1 : ℕ → ℕ → ℕ
   filtD1 i j = distance (2 * at i j) (at (i + 1) (j - 1) + at (i - 1) (j + 1))
 
--- minY to maxY, as the first row of the window and how many, and ac
--- the block at S − 8 uses rows −2 to 3, that at S − 4 rows 0 to 5, with factor 3, when the line rule is on; others −2 to 5, with factor 2
+-- minY to maxY, as the first row of the window and how many, and ac: the block at S − 8 uses rows −2 to 3, that at S − 4 rows 0 to 5, with factor 3, when the line rule is on; others −2 to 5, with factor 2
 unfoldable pub windowRows : Bool → ℕ → ℕ → WindowRows
 windowRows line s y =
     cond (line && eqb y (s - 8)) (record { first = 1; count = 6; factor = 3 })
@@ -50,6 +49,7 @@ windowRows line s y =
 unfoldable pub windowSum : WindowRows → (ℕ → ℕ → ℕ) → ℕ
 windowSum r filt = sum (r .count) (λ j. sum 8 (λ i. cond (eqb ((i + 1) % 2) ((r .first + j) % 2)) (filt (i + 1) (r .first + j)) 0))
 
+-- sumV, sumH, sumD0, sumD1
 unfoldable pub windowSums : WindowRows → List ℕ → Sums
 windowSums r w = record { v = windowSum r (filtV w); h = windowSum r (filtH w); d0 = windowSum r (filtD0 w); d1 = windowSum r (filtD1 w) }
 
@@ -62,10 +62,11 @@ activityTable = 0 ∷ 1 ∷ 2 ∷ 2 ∷ 2 ∷ 2 ∷ 2 ∷ 3 ∷ 3 ∷ 3 ∷ 3 �
 abbrev pub transposeTable : List ℕ
 transposeTable = 0 ∷ 1 ∷ 0 ∷ 2 ∷ 2 ∷ 3 ∷ 1 ∷ 3 ∷ []
 
--- of two sums a and b with their directions: the larger, the smaller, and the larger one's direction; a only where it is greater
 abbrev pub gradient : ℕ → ℕ → ℕ → Gradient
 gradient large small direction = record { large = large; small = small; direction = direction }
 
+-- of two sums a and b with their directions: the larger, the smaller, and the larger one's direction. a counts as larger only if it is
+-- greater than b
 unfoldable pub larger : ℕ → ℕ → ℕ → ℕ → Gradient
 larger a b directionA directionB = cond (ltb b a) (gradient a b directionA) (gradient b a directionB)
 
@@ -96,7 +97,7 @@ strength g = cond (ltb (9 * g .small) (g .large * 2)) 2 (cond (ltb (2 * g .small
 unfoldable pub activity : ℕ → ℕ → ℕ → ℕ
 activity depth factor sumOfHV = getD activityTable (min 15 (sumOfHV * factor / 2 ^ (depth - 1))) 0
 
--- transposeIdx
+-- transposeIdx, above (1500), from dir1 and dir2
 unfoldable pub transposeIdx : Gradient → Gradient → ℕ
 transposeIdx main other = getD transposeTable (main .direction * 2 + other .direction / 2) 0
 
@@ -104,8 +105,9 @@ transposeIdx main other = getD transposeTable (main .direction * 2 + other .dire
 unfoldable pub filtIdx : ℕ → Gradient → ℕ
 filtIdx avgVar main = cond (eqb (strength main) 0) avgVar (avgVar + (main .direction % 2 * 2 + strength main) * 5)
 
--- ---- of sums, of a window, of a block by its first sample
+-- ---- the class of sums, of a window, and of the block whose first sample is (x4, y4)
 
+-- filtIdx and transposeIdx
 unfoldable pub classOfSums : ℕ → ℕ → Sums → Class
 classOfSums depth factor s = record {
   filter = filtIdx (activity depth factor (s .h + s .v)) (mainGradient s);

@@ -8,43 +8,48 @@ use lib.Signed.{leZ}
 use lib.Dec.{eqb, leb, ltb}
 use lib.ListN.{length, getD}
 use Rattle.alf_spec.specs.declared.Picture.{Picture}
-use Rattle.alf_spec.specs.Lists.{within, implies, allBelow, everyFrom, every}
 use Rattle.alf_spec.specs.declared.Ctb.{Ctb}
+use Rattle.alf_spec.specs.Lists.{within, implies, allBelow, everyFrom, every}
 use Rattle.alf_spec.specs.Input.{Layout, Operation, classes, luma, chroma, crossComponent, Input}
 use Rattle.alf_spec.specs.Geometry.{ctbSize, lumaPlane, chromaPlane, planeLength, ctbColumns, ctbRows}
 use Rattle.alf_spec.specs.Parameters.{ctbParam, lumaSet, chromaAlternative, crossIndex, lumaApsCount}
 use Rattle.alf_spec.specs.Process.{classTotal}
 
--- ---- 1 width or height, 2 CTB exponent, 3 bit depth, 4 chroma format and component
+-- ---- 1 to 4
 
--- a multiple of 8 from 8 to 4,096
+-- width and height are multiples of 8 from 8 to 4,096
 abbrev pub sizeValid : ℕ → Bool
 sizeValid n = eqb (n % 8) 0 && within 8 4096 n
 
+-- 1
 unfoldable pub pictureSizeValid : Picture → Bool
 pictureSizeValid p = sizeValid (p .width) && sizeValid (p .height)
 
+-- 2: CTB exponent 5, 6 or 7
 unfoldable pub ctbSizeValid : Picture → Bool
 ctbSizeValid p = within 5 7 (p .«ctb_log2»)
 
+-- 3: bit depth 8 to 12
 unfoldable pub bitDepthValid : Picture → Bool
 bitDepthValid p = within 8 12 (p .«bit_depth»)
 
+-- 4: chroma mark 0 or 1
 unfoldable pub chromaFormatValid : Picture → Bool
 chromaFormatValid p = leb (p .«chroma_format») 1
 
--- chroma work wants a format with chroma, and component 0 or 1
+-- 4: no chroma work under mark 0, and component 0 (Cb) or 1 (Cr)
 unfoldable pub componentValid : Operation → Picture → Bool
 componentValid classes p = true
 componentValid luma p = true
 componentValid (chroma component) p = not (eqb (p .«chroma_format») 0) && leb component 1
 componentValid (crossComponent component) p = not (eqb (p .«chroma_format») 0) && leb component 1
 
--- ---- 5 lengths
+-- ---- 5: N is 1 to 256, and what is given is of the length that the sizes and N call for
 
 abbrev pub ctbTotal : Layout → ℕ
 ctbTotal l = ctbColumns l * ctbRows l
 
+-- a tile number per CTB column and row, a slice and a subpicture number per CTB, 64 subpicture switches
 unfoldable pub layoutLengthsValid : Layout → Bool
 layoutLengthsValid l =
     within 1 256 (l .picture .«slice_count»)
@@ -52,11 +57,13 @@ layoutLengthsValid l =
     && (eqb (length (l .sliceMap)) (ctbTotal l) && (eqb (length (l .subpicMap)) (ctbTotal l)
     && eqb (length (l .subpicAcross)) 64))))
 
+-- eleven numbers a slice, eight APSs of 752, eight numbers a CTB
 unfoldable pub filterLengthsValid : Input → Bool
 filterLengthsValid i =
     eqb (length (i .sliceParams)) (11 * i .layout .picture .«slice_count»)
     && (eqb (length (i .bank)) (8 * 752) && eqb (length (i .ctbParams)) (8 * ctbTotal (i .layout)))
 
+-- 64 fixed filters of 12 coefficients, and a map of 16 times 25
 unfoldable pub fixedLengthsValid : Input → Bool
 fixedLengthsValid i = eqb (length (i .fixedFilters)) (64 * 12) && eqb (length (i .fixedMap)) (16 * 25)
 
@@ -77,14 +84,17 @@ lengthsValid (crossComponent component) i =
     filterLengthsValid i && (eqb (length (i .luma)) (lumaLength i)
     && (eqb (length (i .chroma)) (chromaLength i) && eqb (i .outputLength) (chromaLength i)))
 
--- ---- 6 virtual boundaries: at most 3, each a multiple of 8 from 8 to the size less 8, rising, at least S apart
+-- ---- 6: virtual boundaries
 
+-- a multiple of 8, from 8 to the size less 8
 abbrev pub virtualPositionValid : ℕ → ℕ → Bool
 virtualPositionValid size v = eqb (v % 8) 0 && (leb 8 v && leb (v + 8) size)
 
+-- rising, at least S apart
 unfoldable pub apartAt : ℕ → List ℕ → ℕ → Bool
 apartAt s list k = leb (getD list k 0 + s) (getD list (k + 1) 0)
 
+-- up to 3
 unfoldable pub virtualListValid : ℕ → ℕ → List ℕ → Bool
 virtualListValid size s list = leb (length list) 3 && (every (virtualPositionValid size) list && allBelow (length list - 1) (apartAt s list))
 
@@ -93,18 +103,20 @@ virtualBoundariesValid l =
     virtualListValid (l .picture .width) (ctbSize (l .picture)) (l .virtualColumns)
     && virtualListValid (l .picture .height) (ctbSize (l .picture)) (l .virtualRows)
 
--- ---- 7 tiles: each list begins at 0, and each entry equals the one before or is one more
+-- ---- 7: tiles
 
+-- each entry equals the one before or is one more
 unfoldable pub followsAt : List ℕ → ℕ → Bool
 followsAt list k = eqb (getD list (k + 1) 0) (getD list k 0) || eqb (getD list (k + 1) 0) (getD list k 0 + 1)
 
+-- each list begins at 0
 unfoldable pub tileListValid : List ℕ → Bool
 tileListValid list = eqb (getD list 0 0) 0 && allBelow (length list - 1) (followsAt list)
 
 unfoldable pub tilesValid : Layout → Bool
 tilesValid l = tileListValid (l .tileColumns) && tileListValid (l .tileRows)
 
--- ---- 8 slices, 9 subpictures: four CTBs round a corner, upper left a, upper right b, lower left c, lower right d
+-- ---- 8, 9: slices and subpictures. Four CTBs round a corner, upper left a, upper right b, lower left c, lower right d
 
 -- the first three are alike, and the last is different
 abbrev pub oddOneOut : ℕ → ℕ → ℕ → ℕ → Bool
@@ -129,21 +141,24 @@ cornersInRow rule map columns y = allBelow (columns - 1) (cornerAt rule map colu
 unfoldable pub cornersValid : (ℕ → ℕ → ℕ → ℕ → Bool) → Layout → List ℕ → Bool
 cornersValid rule l map = allBelow (ctbRows l - 1) (cornersInRow rule map (ctbColumns l))
 
+-- 8: a number below N for each CTB, and the slice rule at each corner
 unfoldable pub slicesValid : Layout → Bool
 slicesValid l = every (λ n. ltb n (l .picture .«slice_count»)) (l .sliceMap) && cornersValid sliceCorner l (l .sliceMap)
 
+-- 9: a number 0 to 63 for each CTB, switches 0 or 1, and the subpicture rule at each corner
 unfoldable pub subpicturesValid : Layout → Bool
 subpicturesValid l =
     every (λ n. ltb n 64) (l .subpicMap)
     && (every (λ n. leb n 1) (l .subpicAcross) && cornersValid subpicCorner l (l .subpicMap))
 
--- ---- 10 slice parameters and CTB parameters
+-- ---- 10: slice parameters and CTB parameters
 
 -- the count and each place are 0 to 7, also where the count leaves a place unused
 unfoldable pub sliceParamsValid : Input → Bool
 sliceParamsValid i = every (λ n. leb n 7) (i .sliceParams)
 
 module _ (i : Input) (c : Ctb) where
+  -- flags 0 or 1; luma set 0 to 15, then 16 up to 15 + the count of its slice; alternatives 0 to 7; cross-component indices 0 to 4
   unfoldable pub ctbRangesValid : Bool
   ctbRangesValid =
       leb (ctbParam i c 0) 1 && (leb (ctbParam i c 1) 1 && (leb (ctbParam i c 2) 1
@@ -151,7 +166,7 @@ module _ (i : Input) (c : Ctb) where
       && (leb (chromaAlternative i c 0) 7 && (leb (chromaAlternative i c 1) 7
       && (leb (crossIndex i c 0) 4 && leb (crossIndex i c 1) 4))))))
 
-  -- under chroma format 0 the chroma flags and the four numbers after the luma set are 0
+  -- under chroma mark 0 the two chroma flags and the four numbers after the luma set are 0
   unfoldable pub ctbChromaZero : Bool
   ctbChromaZero =
       eqb (ctbParam i c 1) 0 && (eqb (ctbParam i c 2) 0
@@ -170,11 +185,13 @@ ctbParamsValidAt i k =
 unfoldable pub parametersValid : Input → Bool
 parametersValid i = sliceParamsValid i && allBelow (ctbTotal (i .layout)) (ctbParamsValidAt i)
 
--- ---- 11 coefficients −128 to 127, clips 0 to 2^B, entries of the fixed map 0 to 63
+-- ---- 11: coefficients, clips, fixed map
 
+-- coefficients, the fixed ones too, −128 to 127
 unfoldable pub coeffValid : ℤ → Bool
 coeffValid z = leZ (negsuc 127) z && leZ z (pos 127)
 
+-- clips 0 to 2^B
 unfoldable pub clipValid : ℕ → ℤ → Bool
 clipValid depth z = leZ (pos 0) z && leZ z (pos (2 ^ depth))
 
@@ -185,24 +202,29 @@ isClip n = cond (ltb n 600) (leb 12 (n % 24)) (ltb n 696 && leb 6 ((n - 600) % 1
 unfoldable pub bankNumberValid : ℕ → ℕ → ℤ → Bool
 bankNumberValid depth k z = cond (isClip (k % 752)) (clipValid depth z) (coeffValid z)
 
+-- the whole bank, also filters that no CTB uses
 unfoldable pub bankValid : Input → Bool
 bankValid i = everyFrom 0 (bankNumberValid (i .layout .picture .«bit_depth»)) (i .bank)
 
+-- entries of the fixed map 0 to 63
 unfoldable pub fixedValid : Input → Bool
 fixedValid i = every coeffValid (i .fixedFilters) && every (λ n. ltb n 64) (i .fixedMap)
 
--- ---- 12 input samples, 13 list addresses, 14 region
+-- ---- 12 to 14
 
+-- 12: no input sample of 2^B or more
 unfoldable pub samplesValid : Picture → List ℕ → Bool
 samplesValid p plane = every (λ n. ltb n (2 ^ p .«bit_depth»)) plane
 
+-- 13: list addresses below the CTB count
 unfoldable pub addressesValid : Input → Bool
 addressesValid i = every (λ n. ltb n (ctbTotal (i .layout))) (i .ctbList)
 
--- (01: area) a number, 0 or 1, for each 8 by 8 luma block
+-- of a region (01: area): a number for each 8 by 8 luma block
 unfoldable pub regionLengthValid : Layout → List ℕ → Bool
 regionLengthValid l region = eqb (length region) (l .picture .width / 8 * (l .picture .height / 8))
 
+-- 14: region numbers 0 or 1
 unfoldable pub regionValid : List ℕ → Bool
 regionValid region = every (λ n. leb n 1) region
 

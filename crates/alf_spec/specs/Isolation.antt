@@ -4,8 +4,8 @@ use mathlib.Core.List.{List}
 use Prim.Native.Nat.{ℕ, _+_, _*_, _/_, _%_}
 use lib.Dec.{eqb}
 use lib.ListN.{getD}
-use Rattle.alf_spec.specs.Lists.{implies, allBelow, elem, tabulate}
 use Rattle.alf_spec.specs.declared.Ctb.{Ctb}
+use Rattle.alf_spec.specs.Lists.{implies, allBelow, elem, tabulate}
 use Rattle.alf_spec.specs.Input.{Layout, Operation, classes, luma, chroma, crossComponent}
 use Rattle.alf_spec.specs.Geometry.{Side, before, after, sameSide, next, gap, hasNext, Axis, Plane, lumaPlane, chromaPlane, lumaPosition, columnOf, rowOf, ctbAt}
 use Rattle.alf_spec.specs.Boundary.{sliceOf, subpicOf, tileColumnOf, tileRowOf, sliceDisables, columnDisabled, rowDisabled}

@@ -6,11 +6,11 @@ use lib.IntN.{ℤ, pos}
 use lib.Dec.{eqb, ltb}
 use lib.ListN.{getD}
 use Rattle.alf_spec.specs.declared.LumaRows.{LumaRows}
-use Rattle.alf_spec.specs.Arithmetic.{tapSum, filtered}
 use Rattle.alf_spec.specs.declared.Ctb.{Ctb}
 use Rattle.alf_spec.specs.declared.Class.{Class}
+use Rattle.alf_spec.specs.Arithmetic.{tapSum, filtered}
 use Rattle.alf_spec.specs.Input.{Input}
-use Rattle.alf_spec.specs.Geometry.{lumaPlane, indexOf, inCtb, ctbAt, lineRule}
+use Rattle.alf_spec.specs.Geometry.{lumaPlane, inCtb, ctbAt, lineRule}
 use Rattle.alf_spec.specs.Padding.{read}
 use Rattle.alf_spec.specs.Parameters.{lumaSet, lumaAps, lumaCoeff, lumaClip, fixedCoeff}
 use Rattle.alf_spec.specs.Classes.{blockClass}

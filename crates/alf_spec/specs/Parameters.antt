@@ -6,7 +6,7 @@ use lib.IntN.{ℤ, pos}
 use lib.Dec.{eqb}
 use lib.ListN.{getD}
 use Rattle.alf_spec.specs.declared.Ctb.{Ctb}
-use Rattle.alf_spec.specs.Input.{Layout, Input}
+use Rattle.alf_spec.specs.Input.{Input}
 use Rattle.alf_spec.specs.Geometry.{address}
 use Rattle.alf_spec.specs.Boundary.{sliceOf}
 

@@ -2,9 +2,9 @@
 use mathlib.Core.Bool.{Bool, _&&_}
 use mathlib.Core.List.{List}
 use Prim.Native.Nat.{ℕ, _+_, _*_, _/_, _%_}
-use Rattle.alf_spec.specs.Lists.{elem, tabulate, painted}
 use Rattle.alf_spec.specs.declared.Ctb.{Ctb}
 use Rattle.alf_spec.specs.declared.Class.{Class}
+use Rattle.alf_spec.specs.Lists.{elem, tabulate, painted}
 use Rattle.alf_spec.specs.Input.{Layout, Operation, classes, luma, chroma, crossComponent, Input}
 use Rattle.alf_spec.specs.Geometry.{Plane, lumaPlane, chromaPlane, columnOf, rowOf, ctbAt, address}
 use Rattle.alf_spec.specs.Parameters.{lumaOn, chromaOn, crossOn}
@@ -23,6 +23,7 @@ classTotal l = classColumns l * (l .picture .height / 4)
 abbrev pub classNumber : Class → ℕ
 classNumber c = c .filter + 32 * c .transpose
 
+-- entry k, and all of them
 unfoldable pub classAt : Layout → List ℕ → ℕ → ℕ
 classAt l plane k = classNumber (blockClass l plane (k % classColumns l * 4) (k / classColumns l * 4))
 
@@ -37,6 +38,7 @@ isFiltered i g on k = elem (address (i .layout) (ctbAt g (columnOf g k) (rowOf g
 unfoldable pub filteredPlane : Input → Plane → (Ctb → Bool) → (ℕ → ℕ → ℕ) → List ℕ → List ℕ
 filteredPlane i g on sample plane = painted plane (isFiltered i g on) (λ k. sample (columnOf g k) (rowOf g k))
 
+-- what an operation leaves in its output
 unfoldable pub result : Operation → Input → List ℕ
 result classes i = classMap (i .layout) (i .luma)
 result luma i = filteredPlane i (lumaPlane (i .layout)) (lumaOn i) (lumaSample i) (i .luma)

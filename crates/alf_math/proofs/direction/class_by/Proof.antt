@@ -1,7 +1,6 @@
 -- `alf_math::direction::class_by` meets its contract. Assumes nothing.
-use mathlib.Core.Path.{_≡_}
 use borrow.Author.Needs.{needs}
-use Rattle.alf_spec.specs.Classes.{filtIdx, transposeIdx}
+use Rattle.alf_spec.specs.Classes.{transposeIdx}
 use Rattle.alf_math.proofs.direction.class_by.Statement.{statement}
 use Rattle.alf_math.proofs.direction.class_by.Tie as tie
 

@@ -1,6 +1,5 @@
 -- `alf_math::direction::class_of_sums` meets its contract: the stronger of two gradients is the main one. Assumes nothing.
 use mathlib.Core.Path.{_≡_, _∙_, sym}
-use mathlib.Core.Bool.{true, false}
 use Prim.Native.Nat.{_<_}
 use native.Mathlib.Omega.{arith}
 use borrow.Author.Needs.{needs}

@@ -1,7 +1,7 @@
 -- `alf_math::rounding::rounded` meets its contract: the sum with 64 fits, and the shift keeps it so. Assumes nothing.
 use native.Mathlib.Omega.{arith}
 use Prim.Native.Nat.{_^_}
-use lib.IntN.{ℤ, pos, _+ℤ_}
+use lib.IntN.{pos, _+ℤ_}
 use mir.Facts.{toZ-ofZ}
 use mir.Syntax.{w32}
 use mir.Val.{SFits}

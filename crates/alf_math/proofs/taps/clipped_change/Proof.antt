@@ -1,11 +1,11 @@
 -- `alf_math::taps::clipped_change` meets its contract: the difference of two samples fits. Assumes nothing.
 use native.Mathlib.Omega.{arith}
-use lib.IntN.{pos, negℤ, _-ℤ_, +ℤ-idl}
+use lib.IntN.{pos, _-ℤ_, +ℤ-idl}
 use mir.Syntax.{w32}
 use mir.Val.{SFits}
 use borrow.Author.Needs.{needs}
 use Rattle.alf_spec.specs.Arithmetic.{clippedChange}
-use Rattle.alf_math.proofs.Magnitude.{abs-sub, abs-neg, fits-abs, widened, words, returned}
+use Rattle.alf_math.proofs.Magnitude.{abs-sub, fits-abs, widened, words, returned}
 use Rattle.alf_math.proofs.taps.clipped_change.Statement.{statement}
 use Rattle.alf_math.proofs.taps.clipped_change.Tie as tie
 
