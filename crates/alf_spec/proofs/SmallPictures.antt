@@ -9,16 +9,16 @@ use lib.ListN.{replicate}
 use Rattle.alf_spec.specs.Input.{Input, classes, luma, chroma, crossComponent}
 use Rattle.alf_spec.specs.Lists.{allBelow, everyFrom, elem, sum, sumℤ, tabulate, painted}
 use Rattle.alf_spec.specs.Arithmetic.{clip3, distance, rounded, clipSample, clippedChange, tap, tapSum, filtered}
-use Rattle.alf_spec.specs.Geometry.{ctbSize, subWidth, subHeight, planeOf, lineRule}
+use Rattle.alf_spec.specs.Geometry.{ctbSize, subWidth, subHeight, planeOf, lineRule, bottomDistance}
 use Rattle.alf_spec.specs.Boundary.{sliceOf, subpicOf, tileColumnOf, tileRowOf, tileDisables, sliceDisables, subpicDisables, columnDisabled, rowDisabled, cornerDisabled, find, lineClip, virtualClip, sideClip, clipPosition}
 use Rattle.alf_spec.specs.Padding.{columnClip, rowClip, pastCorner, paddedColumn, paddedRow, read}
 use Rattle.alf_spec.specs.Parameters.{ctbParam, sliceParam, bankNumber, fixedCoeff}
 use Rattle.alf_spec.specs.Classes.{classWindow, filtH, filtV, filtD0, filtD1, windowRows, windowSum, windowSums, larger, diagonal, mainGradient, otherGradient, strength, activity, transposeIdx, filtIdx, classOfSums, classOf, blockClass}
 use Rattle.alf_spec.specs.Luma.{lumaF, lumaC, tapOrder, lumaRows, lumaPlus, lumaMinus, lumaWith, lumaSample}
-use Rattle.alf_spec.specs.Chroma.{chromaRows, chromaPlus, chromaMinus, rowsBelow, chromaWith, chromaSample}
+use Rattle.alf_spec.specs.Chroma.{chromaRows, chromaPlus, chromaMinus, chromaWith, chromaSample}
 use Rattle.alf_spec.specs.CrossComponent.{crossRows, crossTaps, crossSum, corrected, crossWith, crossSample}
 use Rattle.alf_spec.specs.Process.{classAt, classMap, isFiltered, filteredPlane, result}
-use Rattle.alf_spec.specs.Faults.{pictureSizeValid, ctbSizeValid, bitDepthValid, chromaFormatValid, componentValid, layoutLengthsValid, filterLengthsValid, fixedLengthsValid, lengthsValid, apartAt, virtualListValid, virtualBoundariesValid, followsAt, tileListValid, tilesValid, cornerAt, cornersInRow, cornersValid, slicesValid, subpicturesValid, sliceParamsValid, ctbRangesValid, ctbChromaZero, ctbParamsValidAt, parametersValid, coeffValid, clipValid, isClip, bankNumberValid, bankValid, fixedValid, samplesValid, addressesValid, unless, layoutFault, filterFault, tablesFault, fault}
+use Rattle.alf_spec.specs.Faults.{pictureSizeValid, ctbSizeValid, bitDepthValid, chromaFormatValid, componentValid, layoutLengthsValid, filterLengthsValid, fixedLengthsValid, lengthsValid, apartAt, virtualListValid, virtualBoundariesValid, followsAt, tileListValid, tilesValid, cornerAt, cornersInRow, cornersValid, slicesValid, subpicturesValid, sliceParamsValid, ctbRangesValid, ctbChromaZero, ctbParamsValidAt, parametersValid, coeffValid, clipValid, isClip, bankNumberValid, bankValid, fixedValid, samplesValid, addressesValid, unless, sizesFault, boundariesFault, tablesFault, fault}
 use Rattle.alf_spec.proofs.WorkedExamples.{input}
 
 -- ---- one CTB of 32 by 32 in 4:2:0, depth 10, with a texture
@@ -82,7 +82,7 @@ pub record SmallPictures : Type 0 where
   pub cross-accepted : fault (crossComponent 1) ctb32 ≡ 0
 
 pub small-pictures : SmallPictures
-unfolding allBelow everyFrom elem sum sumℤ tabulate painted clip3 distance rounded clipSample clippedChange tap tapSum filtered ctbSize subWidth subHeight planeOf lineRule sliceOf subpicOf tileColumnOf tileRowOf tileDisables sliceDisables subpicDisables columnDisabled rowDisabled cornerDisabled find lineClip virtualClip sideClip clipPosition columnClip rowClip paddedRow pastCorner paddedColumn read ctbParam sliceParam bankNumber fixedCoeff classWindow filtH filtV filtD0 filtD1 windowRows windowSum windowSums larger diagonal mainGradient otherGradient strength activity transposeIdx filtIdx classOfSums classOf blockClass lumaF lumaC tapOrder lumaRows lumaPlus lumaMinus lumaWith lumaSample chromaRows chromaPlus chromaMinus rowsBelow chromaWith chromaSample crossRows crossTaps crossSum corrected crossWith crossSample classAt classMap isFiltered filteredPlane result pictureSizeValid ctbSizeValid bitDepthValid chromaFormatValid componentValid layoutLengthsValid filterLengthsValid fixedLengthsValid lengthsValid apartAt virtualListValid virtualBoundariesValid followsAt tileListValid tilesValid cornerAt cornersInRow cornersValid slicesValid subpicturesValid sliceParamsValid ctbRangesValid ctbChromaZero ctbParamsValidAt parametersValid coeffValid clipValid isClip bankNumberValid bankValid fixedValid samplesValid addressesValid unless layoutFault filterFault tablesFault fault
+unfolding allBelow everyFrom elem sum sumℤ tabulate painted clip3 distance rounded clipSample clippedChange tap tapSum filtered ctbSize subWidth subHeight planeOf lineRule bottomDistance sliceOf subpicOf tileColumnOf tileRowOf tileDisables sliceDisables subpicDisables columnDisabled rowDisabled cornerDisabled find lineClip virtualClip sideClip clipPosition columnClip rowClip paddedRow pastCorner paddedColumn read ctbParam sliceParam bankNumber fixedCoeff classWindow filtH filtV filtD0 filtD1 windowRows windowSum windowSums larger diagonal mainGradient otherGradient strength activity transposeIdx filtIdx classOfSums classOf blockClass lumaF lumaC tapOrder lumaRows lumaPlus lumaMinus lumaWith lumaSample chromaRows chromaPlus chromaMinus chromaWith chromaSample crossRows crossTaps crossSum corrected crossWith crossSample classAt classMap isFiltered filteredPlane result pictureSizeValid ctbSizeValid bitDepthValid chromaFormatValid componentValid layoutLengthsValid filterLengthsValid fixedLengthsValid lengthsValid apartAt virtualListValid virtualBoundariesValid followsAt tileListValid tilesValid cornerAt cornersInRow cornersValid slicesValid subpicturesValid sliceParamsValid ctbRangesValid ctbChromaZero ctbParamsValidAt parametersValid coeffValid clipValid isClip bankNumberValid bankValid fixedValid samplesValid addressesValid unless sizesFault boundariesFault tablesFault fault
 small-pictures = record {
   accepted = refl;
   class-map = refl;

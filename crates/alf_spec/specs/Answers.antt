@@ -35,7 +35,7 @@ isolationNumber isolation.Isolated = 0
 isolationNumber isolation.NotIsolated = 0
 isolationNumber (isolation.Rejected f) = faultNumber f
 
--- (01: shut) what the isolation test says where it accepts
+-- (01: shut) what the isolation test says where it accepts; where it rejects, the number tells
 abbrev pub saysIsolated : Isolation → Bool
 saysIsolated isolation.Isolated = true
 saysIsolated isolation.NotIsolated = false

@@ -77,12 +77,13 @@ unfoldable pub find : (ℕ → Bool) → List ℕ → Option ℕ
 find test [] = none
 find test (v ∷ vs) = only (test v) v orElse find test vs
 
--- v lies 0 to 2 before x or at it; v lies 1 to 4 after x
+-- a virtual boundary v lies 0 to 2 before x or at it; it lies 1 to 4 after x
 abbrev pub near : Side → ℕ → ℕ → Bool
 near before x v = leb v x && leb (x - v) 2
 near after x v = ltb x v && leb (v - x) 4
 
--- the rules, in 01's words, at the position x along an axis; `disabled` says across which sides of its CTB filtering is
+-- 01's rules at the position x along an axis, in its words for rows; left and right are the same without the line. `disabled d` says that
+-- filtering across side d of x's CTB is disabled (01: that side is closed).
 module _ (a : Axis) (x : ℕ) where
   -- the line lies 4 luma rows above the CTB's bottom
   abbrev pub linePosition : ℕ
@@ -91,7 +92,7 @@ module _ (a : Axis) (x : ℕ) where
   -- the line if y ≥ S − 4; the line if it is 1 to 4 below
   unfoldable pub lineClip : Side → Option ℕ
   lineClip before = only (a .hasLine && leb (a .ctb - 4) (inCtb a x)) linePosition
-  lineClip after = only (a .hasLine && near after x linePosition) linePosition
+  lineClip after = only (a .hasLine && (ltb x linePosition && leb (linePosition - x) 4)) linePosition
 
   -- (1511) to (1514): a virtual row 0 to 2 rows above or at the sample; a virtual row 1 to 4 below
   unfoldable pub virtualClip : Side → Option ℕ
@@ -102,7 +103,7 @@ module _ (a : Axis) (x : ℕ) where
   sideClip disabled before = only (ltb (inCtb a x) 3 && disabled before) (ctbStart a x)
   sideClip disabled after = only (ltb (a .ctb - inCtb a x) 5 && disabled after) (ctbStart a x + a .ctb)
 
-  -- clipTopPos or clipLeftPos, clipBottomPos or clipRightPos, where there is one
+  -- (01: edge) clipTopPos or clipLeftPos, clipBottomPos or clipRightPos, where there is one
   unfoldable pub clipPosition : (Side → Bool) → Side → Option ℕ
   clipPosition disabled before = lineClip before orElse virtualClip before orElse sideClip disabled before
   clipPosition disabled after = virtualClip after orElse lineClip after orElse sideClip disabled after

@@ -1,16 +1,16 @@
 -- 8.8.5.4, the filtering of a chroma sample, over the ratio of the planes. Assumes nothing.
 use mathlib.Core.Bool.{Bool, _&&_, _||_, cond}
 use mathlib.Core.List.{List, [], _∷_, map}
-use Prim.Native.Nat.{ℕ, _+_, _-_, _/_}
+use Prim.Native.Nat.{ℕ, _+_, _-_}
 use lib.Dec.{eqb}
 use Rattle.alf_spec.specs.declared.ChromaRows.{ChromaRows}
 use Rattle.alf_spec.specs.Arithmetic.{tapSum, filtered}
 use Rattle.alf_spec.specs.Input.{Input}
-use Rattle.alf_spec.specs.Geometry.{Axis, chromaPlane, lumaPosition, inCtb, ctbAt, lineRule}
+use Rattle.alf_spec.specs.Geometry.{chromaPlane, lumaPosition, ctbAt, lineRule, bottomDistance}
 use Rattle.alf_spec.specs.Padding.{read}
 use Rattle.alf_spec.specs.Parameters.{chromaAps, chromaAlternative, chromaCoeff, chromaClip}
 
--- Table 46, by the distance of a row from the CTB's bottom in chroma rows: row T − 2 is at distance 2
+-- Table 46, by the distance of a chroma row from the CTB's bottom: row T − 2, T being the CTB's height in chroma rows, is at distance 2
 unfoldable pub chromaRows : Bool → ℕ → ChromaRows
 chromaRows line d =
     cond (line && (eqb d 2 || eqb d 3)) (record { y1 = 0; y2 = 0; shift = 10 })
@@ -33,21 +33,17 @@ module _ (x y : ℕ) (r : ChromaRows) where
       ∷ (x - 2, y) ∷ (x - 1, y)
       ∷ []
 
--- the distance of a plane's own row from the bottom of its CTB, in the plane's own rows
-unfoldable pub rowsBelow : Axis → ℕ → ℕ
-rowsBelow a y = a .ctb / a .ratio - inCtb a (lumaPosition a y) / a .ratio
-
 -- the sample at (x, y) of a component filtered
 module _ (i : Input) (component x y : ℕ) where
   abbrev pub chromaRowsAt : ChromaRows
   chromaRowsAt =
       chromaRows (lineRule (chromaPlane (i .layout) .rows) (lumaPosition (chromaPlane (i .layout) .rows) y))
-      (rowsBelow (chromaPlane (i .layout) .rows) y)
+      (bottomDistance (chromaPlane (i .layout) .rows) y)
 
   abbrev pub chromaRead : ℕ × ℕ → ℕ
   chromaRead p = read (i .layout) (chromaPlane (i .layout)) x y (i .chroma) (p .0) (p .1)
 
-  -- (1506), (1507): f[ j ] and c[ j ] are those of the slice's chroma APS and of the CTB's alternative
+  -- (1505) to (1510): f[ j ] and c[ j ] are those of the slice's chroma APS and of the CTB's alternative
   unfoldable pub chromaWith : ChromaRows → ℕ
   chromaWith r =
       filtered (i .layout .picture .«bit_depth») (r .shift) (chromaRead (x, y))

@@ -16,8 +16,8 @@ use Rattle.alf_spec.specs.Padding.{read}
 
 -- ---- the window
 
--- (1470), (1471): the samples at the offsets −3 to 6 both ways from the block's first sample (x4, y4), row by row. Edges are taken at that
--- sample. Entry 10 j + i stands at the offsets i − 3 and j − 3.
+-- (1470), (1471): the samples at the offsets −3 to 6 both ways from the block's first sample (x4, y4), row by row. Edges (01's word for
+-- clip positions) are taken at that sample. Entry 10 j + i stands at the offsets i − 3 and j − 3.
 unfoldable pub classWindow : Layout → List ℕ → ℕ → ℕ → List ℕ
 classWindow l plane x4 y4 = tabulate 100 (λ k. read l (lumaPlane l) x4 y4 plane (x4 + k % 10 - 3) (y4 + k / 10 - 3))
 
@@ -38,7 +38,7 @@ module _ (window : List ℕ) where
   unfoldable pub filtD1 : ℕ → ℕ → ℕ
   filtD1 i j = distance (2 * at i j) (at (i + 1) (j - 1) + at (i - 1) (j + 1))
 
--- minY to maxY, as the first row of the window and how many, and ac: the block at S − 8 uses rows −2 to 3, that at S − 4 rows 0 to 5, with factor 3, when the line rule is on; others −2 to 5, with factor 2
+-- minY to maxY, as the first row of the window (row r stands at offset r − 3) and how many, and ac: the block at S − 8 uses rows −2 to 3, that at S − 4 rows 0 to 5, with factor 3, when the line rule is on; others −2 to 5, with factor 2
 unfoldable pub windowRows : Bool → ℕ → ℕ → WindowRows
 windowRows line s y =
     cond (line && eqb y (s - 8)) (record { first = 1; count = 6; factor = 3 })

@@ -10,7 +10,7 @@ use Rattle.alf_spec.specs.declared.CrossRows.{CrossRows}
 use Rattle.alf_spec.specs.Lists.{sumℤ}
 use Rattle.alf_spec.specs.Arithmetic.{clip3, rounded, clipSample}
 use Rattle.alf_spec.specs.Input.{Input}
-use Rattle.alf_spec.specs.Geometry.{lumaPlane, chromaPlane, lumaPosition, indexOf, inCtb, ctbAt, lineRule}
+use Rattle.alf_spec.specs.Geometry.{lumaPlane, chromaPlane, lumaPosition, indexOf, ctbAt, lineRule, bottomDistance}
 use Rattle.alf_spec.specs.Padding.{read}
 use Rattle.alf_spec.specs.Parameters.{crossAps, crossIndex, crossCoeff}
 
@@ -39,7 +39,7 @@ unfoldable pub corrected : ℕ → ℕ → ℤ → ℕ
 corrected depth curr sum =
     clipSample depth (pos curr +ℤ clip3 (negℤ (pos (2 ^ (depth - 1)))) (pos (2 ^ (depth - 1) - 1)) (rounded 7 sum))
 
--- the sample at (x, y) of a component filtered; (x, y) in luma are its luma position ( xL, yL )
+-- the sample at (x, y) of a component filtered; ( xL, yL ) is its luma position
 module _ (i : Input) (component x y : ℕ) where
   abbrev pub xL : ℕ
   xL = lumaPosition (chromaPlane (i .layout) .columns) x
@@ -48,12 +48,12 @@ module _ (i : Input) (component x y : ℕ) where
   yL = lumaPosition (chromaPlane (i .layout) .rows) y
 
   abbrev pub crossRowsAt : CrossRows
-  crossRowsAt = crossRows (lineRule (lumaPlane (i .layout) .rows) yL) (lumaPlane (i .layout) .rows .ctb - inCtb (lumaPlane (i .layout) .rows) yL)
+  crossRowsAt = crossRows (lineRule (lumaPlane (i .layout) .rows) yL) (bottomDistance (lumaPlane (i .layout) .rows) yL)
 
   abbrev pub crossRead : ℕ × ℕ → ℕ
   crossRead p = read (i .layout) (lumaPlane (i .layout)) xL yL (i .luma) (p .0) (p .1)
 
-  -- (1532): f[ j ] is that of the slice's cross-component APS and of the CTB's index, which counts from 1
+  -- (1531) is the chroma sample; (1532): f[ j ] is that of the slice's cross-component APS and of the CTB's index, which counts from 1
   unfoldable pub crossWith : CrossRows → ℕ
   crossWith r =
       corrected (i .layout .picture .«bit_depth») (getD (i .chroma) (indexOf (chromaPlane (i .layout)) x y) 0)

@@ -2,7 +2,7 @@
 -- number of a cause that does. Assumes nothing.
 use mathlib.Core.Bool.{Bool, true, false, not, _&&_, _||_, cond}
 use mathlib.Core.List.{List}
-use Prim.Native.Nat.{ℕ, _+_, _-_, _*_, _/_, _%_, _^_}
+use Prim.Native.Nat.{ℕ, _+_, _-_, _*_, _%_, _^_}
 use lib.IntN.{ℤ, pos, negsuc}
 use lib.Signed.{leZ}
 use lib.Dec.{eqb, leb, ltb}
@@ -10,10 +10,10 @@ use lib.ListN.{length, getD}
 use Rattle.alf_spec.specs.declared.Picture.{Picture}
 use Rattle.alf_spec.specs.declared.Ctb.{Ctb}
 use Rattle.alf_spec.specs.Lists.{within, implies, allBelow, everyFrom, every}
-use Rattle.alf_spec.specs.Input.{Layout, Operation, classes, luma, chroma, crossComponent, Input}
-use Rattle.alf_spec.specs.Geometry.{ctbSize, lumaPlane, chromaPlane, planeLength, ctbColumns, ctbRows}
-use Rattle.alf_spec.specs.Parameters.{ctbParam, lumaSet, chromaAlternative, crossIndex, lumaApsCount}
-use Rattle.alf_spec.specs.Process.{classTotal}
+use Rattle.alf_spec.specs.Input.{Layout, Operation, classes, luma, chroma, crossComponent, givenLuma, givenChroma, givenFilters, givenFixed, Input}
+use Rattle.alf_spec.specs.Geometry.{ctbSize, lumaPlane, chromaPlane, blockPlane, planeLength, ctbColumns, ctbRows, ctbTotal, ctbOf}
+use Rattle.alf_spec.specs.Parameters.{lumaFlag, chromaFlag, lumaSet, chromaAlternative, crossIndex, lumaApsCount}
+use Rattle.alf_spec.specs.Process.{outputPlane}
 
 -- ---- 1 to 4
 
@@ -46,9 +46,6 @@ componentValid (crossComponent component) p = not (eqb (p .«chroma_format») 0)
 
 -- ---- 5: N is 1 to 256, and what is given is of the length that the sizes and N call for
 
-abbrev pub ctbTotal : Layout → ℕ
-ctbTotal l = ctbColumns l * ctbRows l
-
 -- a tile number per CTB column and row, a slice and a subpicture number per CTB, 64 subpicture switches
 unfoldable pub layoutLengthsValid : Layout → Bool
 layoutLengthsValid l =
@@ -67,22 +64,14 @@ filterLengthsValid i =
 unfoldable pub fixedLengthsValid : Input → Bool
 fixedLengthsValid i = eqb (length (i .fixedFilters)) (64 * 12) && eqb (length (i .fixedMap)) (16 * 25)
 
-abbrev pub lumaLength : Input → ℕ
-lumaLength i = planeLength (lumaPlane (i .layout))
-
-abbrev pub chromaLength : Input → ℕ
-chromaLength i = planeLength (chromaPlane (i .layout))
-
 -- of what the operation is given beside the layout, and of its output
 unfoldable pub lengthsValid : Operation → Input → Bool
-lengthsValid classes i = eqb (length (i .luma)) (lumaLength i) && eqb (i .outputLength) (classTotal (i .layout))
-lengthsValid luma i =
-    filterLengthsValid i && (fixedLengthsValid i && (eqb (length (i .luma)) (lumaLength i) && eqb (i .outputLength) (lumaLength i)))
-lengthsValid (chroma component) i =
-    filterLengthsValid i && (eqb (length (i .chroma)) (chromaLength i) && eqb (i .outputLength) (chromaLength i))
-lengthsValid (crossComponent component) i =
-    filterLengthsValid i && (eqb (length (i .luma)) (lumaLength i)
-    && (eqb (length (i .chroma)) (chromaLength i) && eqb (i .outputLength) (chromaLength i)))
+lengthsValid op i =
+    implies (givenFilters op) (filterLengthsValid i)
+    && (implies (givenFixed op) (fixedLengthsValid i)
+    && (implies (givenLuma op) (eqb (length (i .luma)) (planeLength (lumaPlane (i .layout))))
+    && (implies (givenChroma op) (eqb (length (i .chroma)) (planeLength (chromaPlane (i .layout))))
+    && eqb (i .outputLength) (planeLength (outputPlane op (i .layout))))))
 
 -- ---- 6: virtual boundaries
 
@@ -153,7 +142,7 @@ subpicturesValid l =
 
 -- ---- 10: slice parameters and CTB parameters
 
--- the count and each place are 0 to 7, also where the count leaves a place unused
+-- the count and each APS id (01: place) are 0 to 7, also where the count leaves an id unused
 unfoldable pub sliceParamsValid : Input → Bool
 sliceParamsValid i = every (λ n. leb n 7) (i .sliceParams)
 
@@ -161,7 +150,7 @@ module _ (i : Input) (c : Ctb) where
   -- flags 0 or 1; luma set 0 to 15, then 16 up to 15 + the count of its slice; alternatives 0 to 7; cross-component indices 0 to 4
   unfoldable pub ctbRangesValid : Bool
   ctbRangesValid =
-      leb (ctbParam i c 0) 1 && (leb (ctbParam i c 1) 1 && (leb (ctbParam i c 2) 1
+      leb (lumaFlag i c) 1 && (leb (chromaFlag i c 0) 1 && (leb (chromaFlag i c 1) 1
       && (leb (lumaSet i c) (15 + lumaApsCount i c)
       && (leb (chromaAlternative i c 0) 7 && (leb (chromaAlternative i c 1) 7
       && (leb (crossIndex i c 0) 4 && leb (crossIndex i c 1) 4))))))
@@ -169,13 +158,9 @@ module _ (i : Input) (c : Ctb) where
   -- under chroma mark 0 the two chroma flags and the four numbers after the luma set are 0
   unfoldable pub ctbChromaZero : Bool
   ctbChromaZero =
-      eqb (ctbParam i c 1) 0 && (eqb (ctbParam i c 2) 0
+      eqb (chromaFlag i c 0) 0 && (eqb (chromaFlag i c 1) 0
       && (eqb (chromaAlternative i c 0) 0 && (eqb (chromaAlternative i c 1) 0
       && (eqb (crossIndex i c 0) 0 && eqb (crossIndex i c 1) 0))))
-
--- the CTB at an address
-abbrev pub ctbOf : Layout → ℕ → Ctb
-ctbOf l k = record { column = k % ctbColumns l; row = k / ctbColumns l }
 
 unfoldable pub ctbParamsValidAt : Input → ℕ → Bool
 ctbParamsValidAt i k =
@@ -222,7 +207,7 @@ addressesValid i = every (λ n. ltb n (ctbTotal (i .layout))) (i .ctbList)
 
 -- of a region (01: area): a number for each 8 by 8 luma block
 unfoldable pub regionLengthValid : Layout → List ℕ → Bool
-regionLengthValid l region = eqb (length region) (l .picture .width / 8 * (l .picture .height / 8))
+regionLengthValid l region = eqb (length region) (planeLength (blockPlane l))
 
 -- 14: region numbers 0 or 1
 unfoldable pub regionValid : List ℕ → Bool
@@ -235,38 +220,42 @@ unfoldable pub unless : Bool → ℕ → ℕ → ℕ
 unless true n rest = rest
 unless false n rest = n
 
--- 1 to 9: the layout, which every operation judges; the component and the lengths of the rest are judged beside it
-unfoldable pub layoutFault : Layout → Bool → Bool → ℕ → ℕ
-layoutFault l component lengths rest =
-    unless (pictureSizeValid (l .picture)) 1
-    (unless (ctbSizeValid (l .picture)) 2
-    (unless (bitDepthValid (l .picture)) 3
-    (unless (chromaFormatValid (l .picture) && component) 4
-    (unless (layoutLengthsValid l && lengths) 5
-    (unless (virtualBoundariesValid l) 6
+-- 1 to 3, 6 to 9: what every operation is given
+unfoldable pub sizesFault : Picture → ℕ → ℕ
+sizesFault p rest =
+    unless (pictureSizeValid p) 1
+    (unless (ctbSizeValid p) 2
+    (unless (bitDepthValid p) 3 rest))
+
+unfoldable pub boundariesFault : Layout → ℕ → ℕ
+boundariesFault l rest =
+    unless (virtualBoundariesValid l) 6
     (unless (tilesValid l) 7
     (unless (slicesValid l) 8
-    (unless (subpicturesValid l) 9 rest))))))))
+    (unless (subpicturesValid l) 9 rest)))
 
--- 10 to 13: the tables of a filter; its coefficients and its input planes are judged beside them
-unfoldable pub filterFault : Input → Bool → Bool → ℕ
-filterFault i filters planes =
-    unless (parametersValid i) 10
-    (unless filters 11
-    (unless planes 12
-    (unless (addressesValid i) 13 0)))
-
+-- 10 to 13: what this operation is given
 unfoldable pub tablesFault : Operation → Input → ℕ
-tablesFault classes i = unless (samplesValid (i .layout .picture) (i .luma)) 12 0
-tablesFault luma i = filterFault i (bankValid i && fixedValid i) (samplesValid (i .layout .picture) (i .luma))
-tablesFault (chroma component) i = filterFault i (bankValid i) (samplesValid (i .layout .picture) (i .chroma))
-tablesFault (crossComponent component) i =
-    filterFault i (bankValid i) (samplesValid (i .layout .picture) (i .luma) && samplesValid (i .layout .picture) (i .chroma))
+tablesFault op i =
+    unless (implies (givenFilters op) (parametersValid i)) 10
+    (unless (implies (givenFilters op) (bankValid i) && implies (givenFixed op) (fixedValid i)) 11
+    (unless (implies (givenLuma op) (samplesValid (i .layout .picture) (i .luma)) && implies (givenChroma op) (samplesValid (i .layout .picture) (i .chroma))) 12
+    (unless (implies (givenFilters op) (addressesValid i)) 13 0)))
 
 -- 0 where the operation accepts the input
 unfoldable pub fault : Operation → Input → ℕ
-fault op i = layoutFault (i .layout) (componentValid op (i .layout .picture)) (lengthsValid op i) (tablesFault op i)
+fault op i =
+    sizesFault (i .layout .picture)
+    (unless (chromaFormatValid (i .layout .picture) && componentValid op (i .layout .picture)) 4
+    (unless (layoutLengthsValid (i .layout) && lengthsValid op i) 5
+    (boundariesFault (i .layout)
+    (tablesFault op i))))
 
 -- the isolation test's
 unfoldable pub isolationFault : Layout → List ℕ → ℕ
-isolationFault l region = layoutFault l true (regionLengthValid l region) (unless (regionValid region) 14 0)
+isolationFault l region =
+    sizesFault (l .picture)
+    (unless (chromaFormatValid (l .picture)) 4
+    (unless (layoutLengthsValid l && regionLengthValid l region) 5
+    (boundariesFault l
+    (unless (regionValid region) 14 0))))

@@ -45,7 +45,7 @@ pub record Plane : Type 0 where
   pub columns : Axis
   pub rows : Axis
 
--- CtbSizeY
+-- CtbSizeY (01: S)
 unfoldable pub ctbSize : Picture → ℕ
 ctbSize p = 2 ^ p .«ctb_log2»
 
@@ -67,6 +67,13 @@ lumaPlane l = planeOf l 1 1
 
 abbrev pub chromaPlane : Layout → Plane
 chromaPlane l = planeOf l (subWidth (l .picture)) (subHeight (l .picture))
+
+-- a class map has an entry for each 4 by 4 luma block (01: class plane), a region for each 8 by 8 block (01: area)
+abbrev pub classPlane : Layout → Plane
+classPlane l = planeOf l 4 4
+
+abbrev pub blockPlane : Layout → Plane
+blockPlane l = planeOf l 8 8
 
 -- the plane's own samples along an axis, and where one of them lies: a chroma sample lies where twice its place lies
 abbrev pub samples : Axis → ℕ
@@ -98,7 +105,7 @@ ctbStart a x = x / a .ctb * a .ctb
 abbrev pub inCtb : Axis → ℕ → ℕ
 inCtb a x = x % a .ctb
 
--- the CTB of a sample of a plane, and a CTB's address
+-- the CTB of a sample of a plane; the grid, row by row: how many CTBs, a CTB's address, the CTB at an address
 abbrev pub ctbAt : Plane → ℕ → ℕ → Ctb
 ctbAt g x y = record { column = lumaPosition (g .columns) x / g .columns .ctb; row = lumaPosition (g .rows) y / g .rows .ctb }
 
@@ -108,9 +115,19 @@ ctbColumns l = ctbCount (lumaPlane l .columns)
 abbrev pub ctbRows : Layout → ℕ
 ctbRows l = ctbCount (lumaPlane l .rows)
 
+abbrev pub ctbTotal : Layout → ℕ
+ctbTotal l = ctbColumns l * ctbRows l
+
 abbrev pub address : Layout → Ctb → ℕ
 address l c = c .row * ctbColumns l + c .column
+
+abbrev pub ctbOf : Layout → ℕ → Ctb
+ctbOf l k = record { column = k % ctbColumns l; row = k / ctbColumns l }
 
 -- 01: the line rule is on exactly when the CTB's rows all lie in the picture (applyAlfLineBufBoundary)
 unfoldable pub lineRule : Axis → ℕ → Bool
 lineRule a y = leb (ctbStart a y + a .ctb) (a .size)
+
+-- how far a row of the plane lies from the bottom of its CTB, in the plane's own rows: row S − 5 at distance 5, row T − 2 at distance 2
+unfoldable pub bottomDistance : Axis → ℕ → ℕ
+bottomDistance a y = a .ctb / a .ratio - inCtb a (lumaPosition a y) / a .ratio

@@ -1,4 +1,5 @@
 -- What the operations are given (01: What is lent). Assumes nothing.
+use mathlib.Core.Bool.{Bool, true, false}
 use mathlib.Core.List.{List}
 use Prim.Native.Nat.{ℕ}
 use lib.IntN.{ℤ}
@@ -25,11 +26,37 @@ pub data Operation : Type 0 where
   chroma : ℕ → Operation
   crossComponent : ℕ → Operation
 
--- all that an operation may be given. Classes read the layout and luma alone; the luma filter reads no chroma, the chroma filter no luma
--- and no fixed tables, the cross-component filter no fixed tables
+-- what an operation is given beside the layout: the luma plane, its component's chroma plane, the filters' tables (slice parameters, bank,
+-- CTB parameters and list), the fixed tables
+abbrev pub givenLuma : Operation → Bool
+givenLuma classes = true
+givenLuma luma = true
+givenLuma (chroma component) = false
+givenLuma (crossComponent component) = true
+
+abbrev pub givenChroma : Operation → Bool
+givenChroma classes = false
+givenChroma luma = false
+givenChroma (chroma component) = true
+givenChroma (crossComponent component) = true
+
+abbrev pub givenFilters : Operation → Bool
+givenFilters classes = false
+givenFilters luma = true
+givenFilters (chroma component) = true
+givenFilters (crossComponent component) = true
+
+abbrev pub givenFixed : Operation → Bool
+givenFixed classes = false
+givenFixed luma = true
+givenFixed (chroma component) = false
+givenFixed (crossComponent component) = false
+
+-- all that an operation may be given; what it is not given plays no part
 pub record Input : Type 0 where
   pub layout : Layout
   pub luma : List ℕ
+  -- the component's plane; for the cross-component filter it is filtered already, and luma is not
   pub chroma : List ℕ
   -- eleven numbers a slice (01: slice row)
   pub sliceParams : List ℕ

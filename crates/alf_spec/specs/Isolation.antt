@@ -1,20 +1,20 @@
 -- Open steps between luma samples, and the regions that no open step leaves (01: An area is shut ..). Assumes nothing.
 use mathlib.Core.Bool.{Bool, not, _&&_, _||_, cond}
 use mathlib.Core.List.{List}
-use Prim.Native.Nat.{ℕ, _+_, _*_, _/_, _%_}
+use Prim.Native.Nat.{ℕ, _/_}
 use lib.Dec.{eqb}
 use lib.ListN.{getD}
 use Rattle.alf_spec.specs.declared.Ctb.{Ctb}
 use Rattle.alf_spec.specs.Lists.{implies, allBelow, elem, tabulate}
-use Rattle.alf_spec.specs.Input.{Layout, Operation, classes, luma, chroma, crossComponent}
-use Rattle.alf_spec.specs.Geometry.{Side, before, after, sameSide, next, gap, hasNext, Axis, Plane, lumaPlane, chromaPlane, lumaPosition, columnOf, rowOf, ctbAt}
+use Rattle.alf_spec.specs.Input.{Layout, Operation}
+use Rattle.alf_spec.specs.Geometry.{Side, before, after, sameSide, next, gap, hasNext, Axis, lumaPlane, blockPlane, lumaPosition, planeLength, indexOf, columnOf, rowOf, ctbAt}
 use Rattle.alf_spec.specs.Boundary.{sliceOf, subpicOf, tileColumnOf, tileRowOf, sliceDisables, columnDisabled, rowDisabled}
-use Rattle.alf_spec.specs.Process.{classColumns}
+use Rattle.alf_spec.specs.Process.{outputPlane}
 
 -- ---- steps, judged at the sample that they leave
 
--- a step along an axis to the place next to x: the picture's rim has no step, and a step is shut on a virtual boundary and across a side of
--- the CTB that is disabled
+-- a step along an axis to the sample next to x is open (01: not shut): the picture's rim has no step, and a step is not open on a virtual
+-- boundary and across a side of the CTB that is disabled
 unfoldable pub openStep : Axis → (Side → Bool) → Side → ℕ → Bool
 openStep a disabled d x =
     hasNext (a .size) d x
@@ -28,8 +28,8 @@ module _ (l : Layout) (x y : ℕ) where
   unfoldable pub rowStep : Side → Bool
   rowStep e = openStep (lumaPlane l .rows) (rowDisabled l (ctbAt (lumaPlane l) x y)) e y
 
-  -- a diagonal step is shut if either side step from the same sample is, or if it goes up-left or down-right into another slice with the
-  -- slice switch off
+  -- a diagonal step is not open if either side step from the same sample is not, or if it goes up-left or down-right into another slice
+  -- with the slice switch off
   unfoldable pub diagonalStep : Side → Side → Bool
   diagonalStep d e =
       columnStep d && (rowStep e
@@ -39,7 +39,7 @@ module _ (l : Layout) (x y : ℕ) where
 
 -- the sample lies in a block whose number is 1
 unfoldable pub inside : Layout → List ℕ → ℕ → ℕ → Bool
-inside l region x y = eqb (getD region (y / 8 * (l .picture .width / 8) + x / 8) 0) 1
+inside l region x y = eqb (getD region (indexOf (blockPlane l) (x / 8) (y / 8)) 0) 1
 
 abbrev pub bothSides : (Side → Bool) → Bool
 bothSides test = test before && test after
@@ -59,8 +59,7 @@ isolated l region =
 -- the region of all blocks of the CTBs that pass a test; of one slice, one tile, one subpicture
 unfoldable pub regionOf : Layout → (Ctb → Bool) → List ℕ
 regionOf l test =
-    tabulate (l .picture .width / 8 * (l .picture .height / 8))
-    (λ k. cond (test (ctbAt (lumaPlane l) (k % (l .picture .width / 8) * 8) (k / (l .picture .width / 8) * 8))) 1 0)
+    tabulate (planeLength (blockPlane l)) (λ k. cond (test (ctbAt (blockPlane l) (columnOf (blockPlane l) k) (rowOf (blockPlane l) k))) 1 0)
 
 unfoldable pub sliceRegion : Layout → ℕ → List ℕ
 sliceRegion l n = regionOf l (λ c. eqb (sliceOf l c) n)
@@ -71,13 +70,9 @@ tileRegion l column row = regionOf l (λ c. eqb (tileColumnOf l c) column && eqb
 unfoldable pub subpicRegion : Layout → ℕ → List ℕ
 subpicRegion l n = regionOf l (λ c. eqb (subpicOf l c) n)
 
--- a sample of a plane lies inside where its luma position does
-unfoldable pub sampleInside : Layout → Plane → List ℕ → ℕ → Bool
-sampleInside l g region k = inside l region (lumaPosition (g .columns) (columnOf g k)) (lumaPosition (g .rows) (rowOf g k))
-
--- what of an output lies inside: a class and its transpose where their 4 by 4 block does
+-- an entry of an output lies inside where its luma position does: a class and its transpose where their 4 by 4 block does
 unfoldable pub outputInside : Operation → Layout → List ℕ → ℕ → Bool
-outputInside classes l region k = inside l region (k % classColumns l * 4) (k / classColumns l * 4)
-outputInside luma l region k = sampleInside l (lumaPlane l) region k
-outputInside (chroma component) l region k = sampleInside l (chromaPlane l) region k
-outputInside (crossComponent component) l region k = sampleInside l (chromaPlane l) region k
+outputInside op l region k =
+    inside l region
+    (lumaPosition (outputPlane op l .columns) (columnOf (outputPlane op l) k))
+    (lumaPosition (outputPlane op l .rows) (rowOf (outputPlane op l) k))

@@ -10,7 +10,7 @@ use Rattle.alf_spec.specs.declared.Ctb.{Ctb}
 use Rattle.alf_spec.specs.declared.Class.{Class}
 use Rattle.alf_spec.specs.Arithmetic.{tapSum, filtered}
 use Rattle.alf_spec.specs.Input.{Input}
-use Rattle.alf_spec.specs.Geometry.{lumaPlane, inCtb, ctbAt, lineRule}
+use Rattle.alf_spec.specs.Geometry.{lumaPlane, ctbAt, lineRule, bottomDistance}
 use Rattle.alf_spec.specs.Padding.{read}
 use Rattle.alf_spec.specs.Parameters.{lumaSet, lumaAps, lumaCoeff, lumaClip, fixedCoeff}
 use Rattle.alf_spec.specs.Classes.{blockClass}
@@ -64,11 +64,12 @@ module _ (x y : ℕ) (r : LumaRows) where
 -- the sample at (x, y) filtered
 module _ (i : Input) (x y : ℕ) where
   abbrev pub lumaRowsAt : LumaRows
-  lumaRowsAt = lumaRows (lineRule (lumaPlane (i .layout) .rows) y) (lumaPlane (i .layout) .rows .ctb - inCtb (lumaPlane (i .layout) .rows) y)
+  lumaRowsAt = lumaRows (lineRule (lumaPlane (i .layout) .rows) y) (bottomDistance (lumaPlane (i .layout) .rows) y)
 
   abbrev pub lumaRead : ℕ × ℕ → ℕ
   lumaRead p = read (i .layout) (lumaPlane (i .layout)) x y (i .luma) (p .0) (p .1)
 
+  -- (1466) to (1469), with f and c at idx[ j ]
   unfoldable pub lumaWith : Class → LumaRows → ℕ
   lumaWith class r =
       filtered (i .layout .picture .«bit_depth») (r .shift) (lumaRead (x, y))

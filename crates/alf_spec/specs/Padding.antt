@@ -25,19 +25,20 @@ module _ (a : Axis) where
   limit none = samples a
   limit (some e) = e / a .ratio
 
-  -- (1525) to (1528): a neighbour at p, first clamped to the plane, then to the clip positions, the one after less 1
+  -- a neighbour at p, first clamped to the plane, as (1464) and its like have it, then to the clip positions, the one after less 1, (1525)
+  -- to (1528)
   abbrev pub clamped : (Side → Option ℕ) → ℕ → ℕ
   clamped clip p = min (pred (limit (clip after))) (max (lowest (clip before)) (min p (pred (samples a))))
 
-  -- (1517) to (1520): the first and the last place of x's CTB
-  abbrev pub ctbRim : Side → ℕ → ℕ
-  ctbRim before x = ctbStart a (lumaPosition a x) / a .ratio
-  ctbRim after x = pred (ctbStart a (lumaPosition a x) / a .ratio + a .ctb / a .ratio)
+  -- (1517) to (1520): the first and the last sample of x's CTB
+  abbrev pub ctbEnd : Side → ℕ → ℕ
+  ctbEnd before x = ctbStart a (lumaPosition a x) / a .ratio
+  ctbEnd after x = pred (ctbStart a (lumaPosition a x) / a .ratio + a .ctb / a .ratio)
 
   -- p lies before, or after, x's CTB
   abbrev pub pastCtb : Side → ℕ → ℕ → Bool
-  pastCtb before x p = ltb p (ctbRim before x)
-  pastCtb after x p = ltb (ctbRim after x) p
+  pastCtb before x p = ltb p (ctbEnd before x)
+  pastCtb after x p = ltb (ctbEnd after x) p
 
 -- the sample that is filtered: a plane's, at column x and row y
 module _ (l : Layout) (g : Plane) (x y : ℕ) where
@@ -47,7 +48,7 @@ module _ (l : Layout) (g : Plane) (x y : ℕ) where
   unfoldable pub rowClip : Side → Option ℕ
   rowClip = clipPosition (g .rows) (lumaPosition (g .rows) y) (rowDisabled l (ctbAt g x y))
 
-  -- its neighbour at column p and row q. Positions are never negative: x − 3 is 0 where x is below 3, as (1464) has it.
+  -- its neighbour at column p and row q; a position is never negative, so x − 3 is 0 where x is below 3
   module _ (p q : ℕ) where
     abbrev pub clampedColumn : ℕ
     clampedColumn = clamped (g .columns) columnClip p
@@ -65,8 +66,8 @@ module _ (l : Layout) (g : Plane) (x y : ℕ) where
     -- it moves to the CTB's first column, or last, same row
     unfoldable pub paddedColumn : ℕ
     paddedColumn =
-        cond (pastCorner before) (ctbRim (g .columns) before x)
-        (cond (pastCorner after) (ctbRim (g .columns) after x)
+        cond (pastCorner before) (ctbEnd (g .columns) before x)
+        (cond (pastCorner after) (ctbEnd (g .columns) after x)
         clampedColumn)
 
     unfoldable pub paddedRow : ℕ

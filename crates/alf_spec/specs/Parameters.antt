@@ -1,9 +1,7 @@
 -- The tables that steer the filters: slice parameters, CTB parameters, filter bank and fixed tables (01: slice row, CTB choices, bank).
 -- Assumes nothing.
-use mathlib.Core.Bool.{Bool, not}
 use Prim.Native.Nat.{ℕ, _+_, _*_}
 use lib.IntN.{ℤ, pos}
-use lib.Dec.{eqb}
 use lib.ListN.{getD}
 use Rattle.alf_spec.specs.declared.Ctb.{Ctb}
 use Rattle.alf_spec.specs.Input.{Input}
@@ -16,11 +14,11 @@ module _ (i : Input) (c : Ctb) where
   ctbParam n = getD (i .ctbParams) (8 * address (i .layout) c + n) 0
 
   -- alf_ctb_flag
-  abbrev pub lumaOn : Bool
-  lumaOn = eqb (ctbParam 0) 1
+  abbrev pub lumaFlag : ℕ
+  lumaFlag = ctbParam 0
 
-  abbrev pub chromaOn : ℕ → Bool
-  chromaOn component = eqb (ctbParam (1 + component)) 1
+  abbrev pub chromaFlag : ℕ → ℕ
+  chromaFlag component = ctbParam (1 + component)
 
   -- AlfCtbFiltSetIdxY
   abbrev pub lumaSet : ℕ
@@ -34,10 +32,7 @@ module _ (i : Input) (c : Ctb) where
   abbrev pub crossIndex : ℕ → ℕ
   crossIndex component = ctbParam (6 + component)
 
-  abbrev pub crossOn : ℕ → Bool
-  crossOn component = not (eqb (crossIndex component) 0)
-
-  -- eleven numbers a slice: how many luma APSs, their seven ids, the chroma APS id, the cross-component APS ids of Cb and Cr
+  -- eleven numbers a slice: how many luma APSs, and APS ids (01: places), seven for luma, one for chroma, two for cross-component
   unfoldable pub sliceParam : ℕ → ℕ
   sliceParam n = getD (i .sliceParams) (11 * sliceOf (i .layout) c + n) 0
 

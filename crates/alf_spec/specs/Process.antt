@@ -1,34 +1,30 @@
 -- 8.8.5.1, what each operation leaves in its output, given input that it accepts. Assumes nothing.
-use mathlib.Core.Bool.{Bool, _&&_}
+use mathlib.Core.Bool.{Bool, not, _&&_}
 use mathlib.Core.List.{List}
-use Prim.Native.Nat.{ℕ, _+_, _*_, _/_, _%_}
+use Prim.Native.Nat.{ℕ, _+_, _*_}
+use lib.Dec.{eqb}
 use Rattle.alf_spec.specs.declared.Ctb.{Ctb}
 use Rattle.alf_spec.specs.declared.Class.{Class}
 use Rattle.alf_spec.specs.Lists.{elem, tabulate, painted}
 use Rattle.alf_spec.specs.Input.{Layout, Operation, classes, luma, chroma, crossComponent, Input}
-use Rattle.alf_spec.specs.Geometry.{Plane, lumaPlane, chromaPlane, columnOf, rowOf, ctbAt, address}
-use Rattle.alf_spec.specs.Parameters.{lumaOn, chromaOn, crossOn}
+use Rattle.alf_spec.specs.Geometry.{Plane, lumaPlane, chromaPlane, classPlane, lumaPosition, planeLength, columnOf, rowOf, ctbAt, address}
+use Rattle.alf_spec.specs.Parameters.{lumaFlag, chromaFlag, crossIndex}
 use Rattle.alf_spec.specs.Classes.{blockClass}
 use Rattle.alf_spec.specs.Luma.{lumaSample}
 use Rattle.alf_spec.specs.Chroma.{chromaSample}
 use Rattle.alf_spec.specs.CrossComponent.{crossSample}
 
--- the class map has a number for each 4 by 4 block of the picture, row by row: class + 32 × transpose
-abbrev pub classColumns : Layout → ℕ
-classColumns l = l .picture .width / 4
-
-abbrev pub classTotal : Layout → ℕ
-classTotal l = classColumns l * (l .picture .height / 4)
-
+-- the class map (01: class plane), row by row: class + 32 × transpose of each 4 by 4 block
 abbrev pub classNumber : Class → ℕ
 classNumber c = c .filter + 32 * c .transpose
 
--- entry k, and all of them
 unfoldable pub classAt : Layout → List ℕ → ℕ → ℕ
-classAt l plane k = classNumber (blockClass l plane (k % classColumns l * 4) (k / classColumns l * 4))
+classAt l plane k =
+    classNumber
+    (blockClass l plane (lumaPosition (classPlane l .columns) (columnOf (classPlane l) k)) (lumaPosition (classPlane l .rows) (rowOf (classPlane l) k)))
 
 unfoldable pub classMap : Layout → List ℕ → List ℕ
-classMap l plane = tabulate (classTotal l) (classAt l plane)
+classMap l plane = tabulate (planeLength (classPlane l)) (classAt l plane)
 
 -- the sample at index k of a plane lies in a listed CTB whose flag or index is on
 unfoldable pub isFiltered : Input → Plane → (Ctb → Bool) → ℕ → Bool
@@ -41,6 +37,15 @@ filteredPlane i g on sample plane = painted plane (isFiltered i g on) (λ k. sam
 -- what an operation leaves in its output
 unfoldable pub result : Operation → Input → List ℕ
 result classes i = classMap (i .layout) (i .luma)
-result luma i = filteredPlane i (lumaPlane (i .layout)) (lumaOn i) (lumaSample i) (i .luma)
-result (chroma component) i = filteredPlane i (chromaPlane (i .layout)) (λ c. chromaOn i c component) (chromaSample i component) (i .chroma)
-result (crossComponent component) i = filteredPlane i (chromaPlane (i .layout)) (λ c. crossOn i c component) (crossSample i component) (i .chroma)
+result luma i = filteredPlane i (lumaPlane (i .layout)) (λ c. eqb (lumaFlag i c) 1) (lumaSample i) (i .luma)
+result (chroma component) i =
+    filteredPlane i (chromaPlane (i .layout)) (λ c. eqb (chromaFlag i c component) 1) (chromaSample i component) (i .chroma)
+result (crossComponent component) i =
+    filteredPlane i (chromaPlane (i .layout)) (λ c. not (eqb (crossIndex i c component) 0)) (crossSample i component) (i .chroma)
+
+-- the plane that the output is
+abbrev pub outputPlane : Operation → Layout → Plane
+outputPlane classes l = classPlane l
+outputPlane luma l = lumaPlane l
+outputPlane (chroma component) l = chromaPlane l
+outputPlane (crossComponent component) l = chromaPlane l
