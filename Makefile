@@ -9,8 +9,7 @@ help:
 
 demo:
 	@echo "Proving alf_spec, alf_math and worked_examples (the first time about a minute) ..."
-	@rt check worked_examples > target-demo.log 2>&1 || { cat target-demo.log; rm -f target-demo.log; exit 1; }
-	@rm -f target-demo.log
+	@log=$$(mktemp); rt check worked_examples > $$log 2>&1 || { cat $$log; rm -f $$log; exit 1; }; rm -f $$log
 	@./target/bin/worked_examples
 
 test:

@@ -83,6 +83,8 @@ pub record Rejections : Type 0 where
   pub accepts-chroma : fault (chroma 1) (given (plain good) (zeros 22) (zeros 32) flat [] (3 ∷ 3 ∷ []) 400) ≡ 0
   pub accepts-classes : fault classes (given (plain good) [] [] [] (zeros 1600) [] 100) ≡ 0
   pub accepts-region : isolationFault (plain good) (zeros 25) ≡ 0
+  -- clips up to 2^B, where coefficients end at 127
+  pub accepts-clips : fault luma (onTables (zeros 22) (zeros 32) (set (set flat 12 (pos 256)) 606 (pos 256)) (zeros 1600) []) ≡ 0
   -- slice and subpicture maps that the corner rules allow
   pub accepts-slices : map (λ s. fault luma (onLayout (layout good [] (0 ∷ 1 ∷ []) s (zeros 4) (replicate 64 1)))) ((1 ∷ 0 ∷ 0 ∷ 0 ∷ []) ∷ (0 ∷ 0 ∷ 0 ∷ 1 ∷ []) ∷ (0 ∷ 1 ∷ 1 ∷ 0 ∷ []) ∷ (0 ∷ 0 ∷ 1 ∷ 1 ∷ []) ∷ []) ≡ zeros 4
   pub accepts-subpictures : map (λ s. fault luma (onLayout (layout good [] (0 ∷ 1 ∷ []) (zeros 4) s (replicate 64 0)))) ((0 ∷ 63 ∷ 0 ∷ 63 ∷ []) ∷ (0 ∷ 1 ∷ 2 ∷ 3 ∷ []) ∷ (0 ∷ 0 ∷ 1 ∷ 2 ∷ []) ∷ (1 ∷ 0 ∷ 0 ∷ 1 ∷ []) ∷ []) ≡ zeros 4
@@ -118,6 +120,7 @@ rejections = record {
   accepts-chroma = refl;
   accepts-classes = refl;
   accepts-region = refl;
+  accepts-clips = refl;
   accepts-slices = refl;
   accepts-subpictures = refl;
   r1 = refl;

@@ -1,10 +1,11 @@
--- Small pictures worked out by the definitions: every operation, with rows on both sides of the line-buffer boundary. The numbers were
+-- Small pictures worked out by the definitions: classes and the three filters, with rows on both sides of the line-buffer boundary. The numbers were
 -- found by a model written from H.266 and paper 01 alone. Assumes nothing.
 use mathlib.Core.Path.{_≡_, refl}
-use mathlib.Core.Bool.{true, cond}
+use mathlib.Core.Bool.{Bool, true, _&&_, _||_, cond}
 use mathlib.Core.List.{List, [], _∷_, _++_, map}
 use Prim.Native.Nat.{ℕ, zero, suc, _+_, _*_, _/_, _%_}
 use lib.IntN.{pos, _-ℤ_}
+use lib.Dec.{leb, ltb}
 use lib.ListN.{replicate}
 use Rattle.alf_spec.specs.Input.{Input, classes, luma, chroma, crossComponent}
 use Rattle.alf_spec.specs.Lists.{allBelow, everyFrom, elem, sum, sumℤ, tabulate, painted}
@@ -30,6 +31,10 @@ countFrom k (suc n) = k ∷ countFrom (suc k) n
 abbrev texture : ℕ → ℕ → List ℕ
 texture width n = map (λ k. 300 + (k % width * 53 + k / width * 11 + k % width * (k / width) * 7) % 95) (countFrom 0 n)
 
+-- 25 times 12 coefficients and 12 clips, 8 times 6 and 6, then coefficients alone
+abbrev clipPlace : ℕ → Bool
+clipPlace n = (ltb n 600 && leb 12 (n % 24)) || (leb 600 n && (ltb n 696 && leb 6 (n % 12)))
+
 abbrev ctb32 : Input
 ctb32 = record {
   layout = record {
@@ -54,7 +59,7 @@ ctb32 = record {
   luma = texture 32 1024;
   chroma = texture 16 256;
   sliceParams = 2 ∷ 6 ∷ 1 ∷ 0 ∷ 0 ∷ 0 ∷ 0 ∷ 0 ∷ 4 ∷ 2 ∷ 7 ∷ [];
-  bank = map (λ k. cond (isClip (k % 752)) (pos (5 * k % 401)) (pos (k * 7 % 41) -ℤ pos 20)) (countFrom 0 6016);
+  bank = map (λ k. cond (clipPlace (k % 752)) (pos (5 * k % 401)) (pos (k * 7 % 41) -ℤ pos 20)) (countFrom 0 6016);
   ctbParams = 1 ∷ 1 ∷ 1 ∷ 17 ∷ 3 ∷ 5 ∷ 2 ∷ 4 ∷ [];
   ctbList = 0 ∷ [];
   fixedFilters = replicate 768 (pos 0);

@@ -10,7 +10,7 @@ use lib.ListN.{length, getD}
 use Rattle.alf_spec.specs.declared.Picture.{Picture}
 use Rattle.alf_spec.specs.declared.Ctb.{Ctb}
 use Rattle.alf_spec.specs.Lists.{within, implies, allBelow, everyFrom, every}
-use Rattle.alf_spec.specs.Input.{Layout, Operation, classes, luma, chroma, crossComponent, givenLuma, givenChroma, givenFilters, givenFixed, Input}
+use Rattle.alf_spec.specs.Input.{Layout, Operation, classes, luma, chroma, crossComponent, given, Input}
 use Rattle.alf_spec.specs.Geometry.{ctbSize, lumaPlane, chromaPlane, blockPlane, planeLength, ctbColumns, ctbRows, ctbTotal, ctbOf}
 use Rattle.alf_spec.specs.Parameters.{lumaFlag, chromaFlag, lumaSet, chromaAlternative, crossIndex, lumaApsCount}
 use Rattle.alf_spec.specs.Process.{outputPlane}
@@ -67,10 +67,10 @@ fixedLengthsValid i = eqb (length (i .fixedFilters)) (64 * 12) && eqb (length (i
 -- of what the operation is given beside the layout, and of its output
 unfoldable pub lengthsValid : Operation → Input → Bool
 lengthsValid op i =
-    implies (givenFilters op) (filterLengthsValid i)
-    && (implies (givenFixed op) (fixedLengthsValid i)
-    && (implies (givenLuma op) (eqb (length (i .luma)) (planeLength (lumaPlane (i .layout))))
-    && (implies (givenChroma op) (eqb (length (i .chroma)) (planeLength (chromaPlane (i .layout))))
+    implies (given op .filters) (filterLengthsValid i)
+    && (implies (given op .fixed) (fixedLengthsValid i)
+    && (implies (given op .luma) (eqb (length (i .luma)) (planeLength (lumaPlane (i .layout))))
+    && (implies (given op .chroma) (eqb (length (i .chroma)) (planeLength (chromaPlane (i .layout))))
     && eqb (i .outputLength) (planeLength (outputPlane op (i .layout))))))
 
 -- ---- 6: virtual boundaries
@@ -237,10 +237,10 @@ boundariesFault l rest =
 -- 10 to 13: what this operation is given
 unfoldable pub tablesFault : Operation → Input → ℕ
 tablesFault op i =
-    unless (implies (givenFilters op) (parametersValid i)) 10
-    (unless (implies (givenFilters op) (bankValid i) && implies (givenFixed op) (fixedValid i)) 11
-    (unless (implies (givenLuma op) (samplesValid (i .layout .picture) (i .luma)) && implies (givenChroma op) (samplesValid (i .layout .picture) (i .chroma))) 12
-    (unless (implies (givenFilters op) (addressesValid i)) 13 0)))
+    unless (implies (given op .filters) (parametersValid i)) 10
+    (unless (implies (given op .filters) (bankValid i) && implies (given op .fixed) (fixedValid i)) 11
+    (unless (implies (given op .luma) (samplesValid (i .layout .picture) (i .luma)) && implies (given op .chroma) (samplesValid (i .layout .picture) (i .chroma))) 12
+    (unless (implies (given op .filters) (addressesValid i)) 13 0)))
 
 -- 0 where the operation accepts the input
 unfoldable pub fault : Operation → Input → ℕ

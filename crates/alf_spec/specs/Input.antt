@@ -26,31 +26,19 @@ pub data Operation : Type 0 where
   chroma : ℕ → Operation
   crossComponent : ℕ → Operation
 
--- what an operation is given beside the layout: the luma plane, its component's chroma plane, the filters' tables (slice parameters, bank,
--- CTB parameters and list), the fixed tables
-abbrev pub givenLuma : Operation → Bool
-givenLuma classes = true
-givenLuma luma = true
-givenLuma (chroma component) = false
-givenLuma (crossComponent component) = true
+-- what an operation is given beside the layout: the luma plane; its component's chroma plane; the filters' tables, which are slice parameters,
+-- bank, CTB parameters and list; the fixed tables
+pub record Given : Type 0 where
+  pub luma : Bool
+  pub chroma : Bool
+  pub filters : Bool
+  pub fixed : Bool
 
-abbrev pub givenChroma : Operation → Bool
-givenChroma classes = false
-givenChroma luma = false
-givenChroma (chroma component) = true
-givenChroma (crossComponent component) = true
-
-abbrev pub givenFilters : Operation → Bool
-givenFilters classes = false
-givenFilters luma = true
-givenFilters (chroma component) = true
-givenFilters (crossComponent component) = true
-
-abbrev pub givenFixed : Operation → Bool
-givenFixed classes = false
-givenFixed luma = true
-givenFixed (chroma component) = false
-givenFixed (crossComponent component) = false
+abbrev pub given : Operation → Given
+given classes = record { luma = true; chroma = false; filters = false; fixed = false }
+given luma = record { luma = true; chroma = false; filters = true; fixed = true }
+given (chroma component) = record { luma = false; chroma = true; filters = true; fixed = false }
+given (crossComponent component) = record { luma = true; chroma = true; filters = true; fixed = false }
 
 -- all that an operation may be given; what it is not given plays no part
 pub record Input : Type 0 where

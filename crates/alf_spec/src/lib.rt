@@ -1,33 +1,42 @@
 // The types that callers of the operations see, and those that code and definitions share.
 
-// A picture's sizes and switches. A switch that is true filters across.
+// A picture's sizes and switches (01: frame). A switch that is true filters across.
 pub struct Picture {
     pub width: u32,
     pub height: u32,
+    // CtbLog2SizeY (01: CTB exponent)
     pub ctb_log2: u8,
+    // BitDepth (01: B)
     pub bit_depth: u8,
-    // 0: luma alone, 1: 4:2:0
+    // ChromaArrayType (01: chroma mark): 0 luma alone, 1 4:2:0
     pub chroma_format: u8,
+    // how many slices have parameters (01: N)
     pub slice_count: u32,
     pub across_tiles: bool,
     pub across_slices: bool,
 }
 
-// Why an input is rejected, in the order of the numbers 1 to 14.
+// Why an input is rejected, in the order of the numbers 1 to 14 of 01's table.
 pub enum Fault {
     PictureSize,
     CtbSize,
     BitDepth,
+    // also chroma work without chroma, and another component than Cb or Cr
     ChromaFormat,
+    // also a slice count out of range
     Length,
     VirtualBoundary,
     Tile,
     Slice,
     Subpicture,
+    // of a slice or a CTB
     Parameter,
+    // a coefficient, a clip or an entry of the fixed map
     Filter,
     Sample,
+    // of a CTB in the list
     Address,
+    // an entry of a region (01: area byte)
     Region,
 }
 
@@ -37,7 +46,7 @@ pub enum Answer {
     Rejected(Fault),
 }
 
-// The answer of the isolation test.
+// The answer of the isolation test (01: shut, not shut).
 pub enum Isolation {
     Isolated,
     NotIsolated,
@@ -50,7 +59,7 @@ pub struct Ctb {
     pub row: u32,
 }
 
-// The rows of a class window that count, as the first and how many, and the activity factor.
+// The rows of a class window that count, as the first (row r stands at offset r − 3) and how many, and the activity factor.
 pub struct WindowRows {
     pub first: u32,
     pub count: u32,
@@ -93,7 +102,7 @@ pub struct ChromaRows {
     pub shift: u32,
 }
 
-// The same for the cross-component filter (Table 47), whose shift is always 7.
+// The same for the cross-component filter (Table 47): y1 above and below, y2 below only. Its shift is always 7.
 pub struct CrossRows {
     pub y1: u32,
     pub y2: u32,
