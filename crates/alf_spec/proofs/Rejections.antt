@@ -6,7 +6,7 @@ use Prim.Native.Nat.{ℕ, _+_}
 use lib.IntN.{ℤ, pos, negsuc}
 use lib.ListN.{replicate, getD, set}
 use Rattle.alf_spec.specs.declared.Picture.{Picture}
-use Rattle.alf_spec.specs.Input.{Layout, Operation, classes, luma, chroma, crossComponent, Input}
+use Rattle.alf_spec.specs.Input.{Layout, classes, luma, chroma, crossComponent, Input}
 use Rattle.alf_spec.specs.Lists.{allBelow, everyFrom}
 use Rattle.alf_spec.specs.Geometry.{ctbSize, subWidth, subHeight, planeOf}
 use Rattle.alf_spec.specs.Boundary.{sliceOf}

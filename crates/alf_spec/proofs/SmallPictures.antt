@@ -1,7 +1,7 @@
 -- Small pictures worked out by the definitions: classes and the three filters, with rows on both sides of the line-buffer boundary. The numbers were
 -- found by a model written from H.266 and paper 01 alone. Assumes nothing.
 use mathlib.Core.Path.{_≡_, refl}
-use mathlib.Core.Bool.{Bool, true, _&&_, _||_, cond}
+use mathlib.Core.Bool.{Bool, true, false, _&&_, _||_, cond}
 use mathlib.Core.List.{List, [], _∷_, _++_, map}
 use Prim.Native.Nat.{ℕ, zero, suc, _+_, _*_, _/_, _%_}
 use lib.IntN.{pos, _-ℤ_}
@@ -10,7 +10,7 @@ use lib.ListN.{replicate}
 use Rattle.alf_spec.specs.Input.{Input, classes, luma, chroma, crossComponent}
 use Rattle.alf_spec.specs.Lists.{allBelow, everyFrom, elem, sum, sumℤ, tabulate, painted}
 use Rattle.alf_spec.specs.Arithmetic.{clip3, distance, rounded, clipSample, clippedChange, tap, tapSum, filtered}
-use Rattle.alf_spec.specs.Geometry.{ctbSize, subWidth, subHeight, planeOf, lineRule, bottomDistance}
+use Rattle.alf_spec.specs.Geometry.{lumaPlane, ctbSize, subWidth, subHeight, planeOf, lineRule, bottomDistance}
 use Rattle.alf_spec.specs.Boundary.{sliceOf, subpicOf, tileColumnOf, tileRowOf, tileDisables, sliceDisables, subpicDisables, columnDisabled, rowDisabled, cornerDisabled, find, lineClip, virtualClip, sideClip, clipPosition}
 use Rattle.alf_spec.specs.Padding.{columnClip, rowClip, pastCorner, paddedColumn, paddedRow, read}
 use Rattle.alf_spec.specs.Parameters.{ctbParam, sliceParam, bankNumber, fixedCoeff}
@@ -18,9 +18,9 @@ use Rattle.alf_spec.specs.Classes.{classWindow, filtH, filtV, filtD0, fi
 use Rattle.alf_spec.specs.Luma.{lumaF, lumaC, tapOrder, lumaRows, lumaPlus, lumaMinus, lumaWith, lumaSample}
 use Rattle.alf_spec.specs.Chroma.{chromaRows, chromaPlus, chromaMinus, chromaWith, chromaSample}
 use Rattle.alf_spec.specs.CrossComponent.{crossRows, crossTaps, crossSum, corrected, crossWith, crossSample}
-use Rattle.alf_spec.specs.Process.{classAt, classMap, isFiltered, filteredPlane, result}
+use Rattle.alf_spec.specs.Process.{classAt, classMap, lumaOn, isFiltered, atIndex, filteredPlane, result}
 use Rattle.alf_spec.specs.Faults.{pictureSizeValid, ctbSizeValid, bitDepthValid, chromaFormatValid, componentValid, layoutLengthsValid, filterLengthsValid, fixedLengthsValid, lengthsValid, apartAt, virtualListValid, virtualBoundariesValid, followsAt, tileListValid, tilesValid, cornerAt, cornersInRow, cornersValid, slicesValid, subpicturesValid, sliceParamsValid, ctbRangesValid, ctbChromaZero, ctbParamsValidAt, parametersValid, coeffValid, clipValid, isClip, bankNumberValid, bankValid, fixedValid, samplesValid, addressesValid, unless, sizesFault, boundariesFault, tablesFault, fault}
-use Rattle.alf_spec.proofs.WorkedExamples.{input}
+use Rattle.alf_spec.proofs.WorkedExamples.{layout, input}
 
 -- ---- one CTB of 32 by 32 in 4:2:0, depth 10, with a texture
 
@@ -67,6 +67,26 @@ ctb32 = record {
   outputLength = 256;
 }
 
+-- ---- two CTBs side by side, 64 by 8 luma samples, with luma flags and a list
+
+abbrev twoCtbs : ℕ → ℕ → List ℕ → Input
+twoCtbs flag0 flag1 list = record {
+  layout = layout 2 64 8 (0 ∷ 0 ∷ []);
+  luma = replicate 512 0;
+  chroma = [];
+  sliceParams = replicate 22 0;
+  bank = replicate 6016 (pos 0);
+  ctbParams = (flag0 ∷ replicate 7 0) ++ (flag1 ∷ replicate 7 0);
+  ctbList = list;
+  fixedFilters = replicate 768 (pos 0);
+  fixedMap = replicate 400 0;
+  outputLength = 512;
+}
+
+-- whether the last sample of CTB 0 and the first of CTB 1, in rows 0 and 1, are filtered
+abbrev filteredAt : Input → List Bool
+filteredAt i = map (isFiltered i (lumaPlane (i .layout)) (lumaOn i)) (31 ∷ 32 ∷ 95 ∷ 96 ∷ [])
+
 pub record SmallPictures : Type 0 where
   -- P12's picture is accepted, and whole: its classes, and its luma plane filtered with clip 3
   pub accepted : fault luma (input 16 3) ≡ 0
@@ -83,11 +103,15 @@ pub record SmallPictures : Type 0 where
   pub line-luma : map (lumaSample ctb32 9) (countFrom 23 9) ≡ 394 ∷ 369 ∷ 346 ∷ 357 ∷ 308 ∷ 380 ∷ 380 ∷ 327 ∷ 303 ∷ []
   pub line-chroma : map (chromaSample ctb32 0 3) (countFrom 10 6) ≡ 288 ∷ 334 ∷ 397 ∷ 303 ∷ 335 ∷ 376 ∷ []
   pub line-cross : map (crossSample ctb32 1 3) (countFrom 10 6) ≡ 306 ∷ 327 ∷ 368 ∷ 300 ∷ 344 ∷ 379 ∷ []
+  -- what is filtered: listed CTBs whose flag is on, whatever their order and repeats
+  pub listed : map (λ list. filteredAt (twoCtbs 1 1 list)) ([] ∷ (1 ∷ []) ∷ (0 ∷ 1 ∷ []) ∷ (1 ∷ 1 ∷ 0 ∷ []) ∷ [])
+      ≡ replicate 4 false ∷ (false ∷ true ∷ false ∷ true ∷ []) ∷ replicate 4 true ∷ replicate 4 true ∷ []
+  pub flag-off : filteredAt (twoCtbs 1 0 (1 ∷ 0 ∷ [])) ≡ true ∷ false ∷ true ∷ false ∷ []
   pub chroma-accepted : fault (chroma 0) ctb32 ≡ 0
   pub cross-accepted : fault (crossComponent 1) ctb32 ≡ 0
 
 pub small-pictures : SmallPictures
-unfolding allBelow everyFrom elem sum sumℤ tabulate painted clip3 distance rounded clipSample clippedChange tap tapSum filtered ctbSize subWidth subHeight planeOf lineRule bottomDistance sliceOf subpicOf tileColumnOf tileRowOf tileDisables sliceDisables subpicDisables columnDisabled rowDisabled cornerDisabled find lineClip virtualClip sideClip clipPosition columnClip rowClip paddedRow pastCorner paddedColumn read ctbParam sliceParam bankNumber fixedCoeff classWindow filtH filtV filtD0 filtD1 windowRows windowSum windowSums larger diagonal mainGradient otherGradient strength activity transposeIdx filtIdx classOfSums classOf blockClass lumaF lumaC tapOrder lumaRows lumaPlus lumaMinus lumaWith lumaSample chromaRows chromaPlus chromaMinus chromaWith chromaSample crossRows crossTaps crossSum corrected crossWith crossSample classAt classMap isFiltered filteredPlane result pictureSizeValid ctbSizeValid bitDepthValid chromaFormatValid componentValid layoutLengthsValid filterLengthsValid fixedLengthsValid lengthsValid apartAt virtualListValid virtualBoundariesValid followsAt tileListValid tilesValid cornerAt cornersInRow cornersValid slicesValid subpicturesValid sliceParamsValid ctbRangesValid ctbChromaZero ctbParamsValidAt parametersValid coeffValid clipValid isClip bankNumberValid bankValid fixedValid samplesValid addressesValid unless sizesFault boundariesFault tablesFault fault
+unfolding allBelow everyFrom elem sum sumℤ tabulate painted clip3 distance rounded clipSample clippedChange tap tapSum filtered ctbSize subWidth subHeight planeOf lineRule bottomDistance sliceOf subpicOf tileColumnOf tileRowOf tileDisables sliceDisables subpicDisables columnDisabled rowDisabled cornerDisabled find lineClip virtualClip sideClip clipPosition columnClip rowClip paddedRow pastCorner paddedColumn read ctbParam sliceParam bankNumber fixedCoeff classWindow filtH filtV filtD0 filtD1 windowRows windowSum windowSums larger diagonal mainGradient otherGradient strength activity transposeIdx filtIdx classOfSums classOf blockClass lumaF lumaC tapOrder lumaRows lumaPlus lumaMinus lumaWith lumaSample chromaRows chromaPlus chromaMinus chromaWith chromaSample crossRows crossTaps crossSum corrected crossWith crossSample classAt classMap lumaOn isFiltered atIndex filteredPlane result pictureSizeValid ctbSizeValid bitDepthValid chromaFormatValid componentValid layoutLengthsValid filterLengthsValid fixedLengthsValid lengthsValid apartAt virtualListValid virtualBoundariesValid followsAt tileListValid tilesValid cornerAt cornersInRow cornersValid slicesValid subpicturesValid sliceParamsValid ctbRangesValid ctbChromaZero ctbParamsValidAt parametersValid coeffValid clipValid isClip bankNumberValid bankValid fixedValid samplesValid addressesValid unless sizesFault boundariesFault tablesFault fault
 small-pictures = record {
   accepted = refl;
   class-map = refl;
@@ -96,6 +120,8 @@ small-pictures = record {
   line-luma = refl;
   line-chroma = refl;
   line-cross = refl;
+  listed = refl;
+  flag-off = refl;
   chroma-accepted = refl;
   cross-accepted = refl;
 }

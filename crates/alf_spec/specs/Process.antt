@@ -26,22 +26,34 @@ classAt l plane k =
 unfoldable pub classMap : Layout → List ℕ → List ℕ
 classMap l plane = tabulate (planeLength (classPlane l)) (classAt l plane)
 
+-- a CTB's flag or index is on
+unfoldable pub lumaOn : Input → Ctb → Bool
+lumaOn i c = eqb (lumaFlag i c) 1
+
+unfoldable pub chromaOn : Input → ℕ → Ctb → Bool
+chromaOn i component c = eqb (chromaFlag i c component) 1
+
+unfoldable pub crossOn : Input → ℕ → Ctb → Bool
+crossOn i component c = not (eqb (crossIndex i c component) 0)
+
 -- the sample at index k of a plane lies in a listed CTB whose flag or index is on
 unfoldable pub isFiltered : Input → Plane → (Ctb → Bool) → ℕ → Bool
 isFiltered i g on k = elem (address (i .layout) (ctbAt g (columnOf g k) (rowOf g k))) (i .ctbList) && on (ctbAt g (columnOf g k) (rowOf g k))
 
+-- what a function of column and row gives at index k
+unfoldable pub atIndex : Plane → (ℕ → ℕ → ℕ) → ℕ → ℕ
+atIndex g sample k = sample (columnOf g k) (rowOf g k)
+
 -- a filter's output is its input, then each listed CTB whose flag or index is on: neither order nor repeats have an effect
 unfoldable pub filteredPlane : Input → Plane → (Ctb → Bool) → (ℕ → ℕ → ℕ) → List ℕ → List ℕ
-filteredPlane i g on sample plane = painted plane (isFiltered i g on) (λ k. sample (columnOf g k) (rowOf g k))
+filteredPlane i g on sample plane = painted plane (isFiltered i g on) (atIndex g sample)
 
 -- what an operation leaves in its output
 unfoldable pub result : Operation → Input → List ℕ
 result classes i = classMap (i .layout) (i .luma)
-result luma i = filteredPlane i (lumaPlane (i .layout)) (λ c. eqb (lumaFlag i c) 1) (lumaSample i) (i .luma)
-result (chroma component) i =
-    filteredPlane i (chromaPlane (i .layout)) (λ c. eqb (chromaFlag i c component) 1) (chromaSample i component) (i .chroma)
-result (crossComponent component) i =
-    filteredPlane i (chromaPlane (i .layout)) (λ c. not (eqb (crossIndex i c component) 0)) (crossSample i component) (i .chroma)
+result luma i = filteredPlane i (lumaPlane (i .layout)) (lumaOn i) (lumaSample i) (i .luma)
+result (chroma component) i = filteredPlane i (chromaPlane (i .layout)) (chromaOn i component) (chromaSample i component) (i .chroma)
+result (crossComponent component) i = filteredPlane i (chromaPlane (i .layout)) (crossOn i component) (crossSample i component) (i .chroma)
 
 -- the plane that the output is
 abbrev pub outputPlane : Operation → Layout → Plane
