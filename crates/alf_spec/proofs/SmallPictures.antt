@@ -8,7 +8,7 @@ use lib.IntN.{pos, _-ℤ_}
 use lib.Dec.{leb, ltb}
 use lib.ListN.{replicate}
 use Rattle.alf_spec.specs.Input.{Input, classes, luma, chroma, crossComponent}
-use Rattle.alf_spec.specs.Lists.{allBelow, everyFrom, elem, sum, sumℤ, tabulate, painted}
+use Rattle.alf_spec.specs.Lists.{allBelow, everyFrom, elem, sumBelow, sumBelowℤ, tabulate, painted}
 use Rattle.alf_spec.specs.Arithmetic.{clip3, distance, rounded, clipSample, clippedChange, tap, tapSum, filtered}
 use Rattle.alf_spec.specs.Geometry.{lumaPlane, ctbSize, subWidth, subHeight, planeOf, lineRule, bottomDistance}
 use Rattle.alf_spec.specs.Boundary.{sliceOf, subpicOf, tileColumnOf, tileRowOf, tileDisables, sliceDisables, subpicDisables, columnDisabled, rowDisabled, cornerDisabled, find, lineClip, virtualClip, sideClip, clipPosition}
@@ -31,7 +31,7 @@ countFrom k (suc n) = k ∷ countFrom (suc k) n
 abbrev texture : ℕ → ℕ → List ℕ
 texture width n = map (λ k. 300 + (k % width * 53 + k / width * 11 + k % width * (k / width) * 7) % 95) (countFrom 0 n)
 
--- 25 times 12 coefficients and 12 clips, 8 times 6 and 6, then coefficients alone
+-- 25 repeated 12 coefficients and 12 clips, 8 repeated 6 and 6, then coefficients alone
 abbrev clipPlace : ℕ → Bool
 clipPlace n = (ltb n 600 && leb 12 (n % 24)) || (leb 600 n && (ltb n 696 && leb 6 (n % 12)))
 
@@ -111,7 +111,7 @@ pub record SmallPictures : Type 0 where
   pub cross-accepted : fault (crossComponent 1) ctb32 ≡ 0
 
 pub small-pictures : SmallPictures
-unfolding allBelow everyFrom elem sum sumℤ tabulate painted clip3 distance rounded clipSample clippedChange tap tapSum filtered ctbSize subWidth subHeight planeOf lineRule bottomDistance sliceOf subpicOf tileColumnOf tileRowOf tileDisables sliceDisables subpicDisables columnDisabled rowDisabled cornerDisabled find lineClip virtualClip sideClip clipPosition columnClip rowClip paddedRow pastCorner paddedColumn read ctbParam sliceParam bankNumber fixedCoeff classWindow filtH filtV filtD0 filtD1 windowRows windowSum windowSums larger diagonal mainGradient otherGradient strength activity transposeIdx filtIdx classOfSums classOf blockClass lumaF lumaC tapOrder lumaRows lumaPlus lumaMinus lumaWith lumaSample chromaRows chromaPlus chromaMinus chromaWith chromaSample crossRows crossTaps crossSum corrected crossWith crossSample classAt classMap lumaOn isFiltered atIndex filteredPlane result pictureSizeValid ctbSizeValid bitDepthValid chromaFormatValid componentValid layoutLengthsValid filterLengthsValid fixedLengthsValid lengthsValid apartAt virtualListValid virtualBoundariesValid followsAt tileListValid tilesValid cornerAt cornersInRow cornersValid slicesValid subpicturesValid sliceParamsValid ctbRangesValid ctbChromaZero ctbParamsValidAt parametersValid coeffValid clipValid isClip bankNumberValid bankValid fixedValid samplesValid addressesValid unless sizesFault boundariesFault tablesFault fault
+unfolding allBelow everyFrom elem sumBelow sumBelowℤ tabulate painted clip3 distance rounded clipSample clippedChange tap tapSum filtered ctbSize subWidth subHeight planeOf lineRule bottomDistance sliceOf subpicOf tileColumnOf tileRowOf tileDisables sliceDisables subpicDisables columnDisabled rowDisabled cornerDisabled find lineClip virtualClip sideClip clipPosition columnClip rowClip paddedRow pastCorner paddedColumn read ctbParam sliceParam bankNumber fixedCoeff classWindow filtH filtV filtD0 filtD1 windowRows windowSum windowSums larger diagonal mainGradient otherGradient strength activity transposeIdx filtIdx classOfSums classOf blockClass lumaF lumaC tapOrder lumaRows lumaPlus lumaMinus lumaWith lumaSample chromaRows chromaPlus chromaMinus chromaWith chromaSample crossRows crossTaps crossSum corrected crossWith crossSample classAt classMap lumaOn isFiltered atIndex filteredPlane result pictureSizeValid ctbSizeValid bitDepthValid chromaFormatValid componentValid layoutLengthsValid filterLengthsValid fixedLengthsValid lengthsValid apartAt virtualListValid virtualBoundariesValid followsAt tileListValid tilesValid cornerAt cornersInRow cornersValid slicesValid subpicturesValid sliceParamsValid ctbRangesValid ctbChromaZero ctbParamsValidAt parametersValid coeffValid clipValid isClip bankNumberValid bankValid fixedValid samplesValid addressesValid unless sizesFault boundariesFault tablesFault fault
 small-pictures = record {
   accepted = refl;
   class-map = refl;

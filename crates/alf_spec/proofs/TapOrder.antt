@@ -13,16 +13,16 @@ use Rattle.alf_spec.specs.Luma.{tapOrderTable, tapOrder}
 use Rattle.alf_spec.proofs.Tests.{both, all-at, every-at}
 
 -- how often v stands in a list
-unfoldable pub count : ℕ → List ℕ → ℕ
-count v [] = 0
-count v (x ∷ xs) = cond (eqb v x) (suc (count v xs)) (count v xs)
+unfoldable pub occurrences : ℕ → List ℕ → ℕ
+occurrences v [] = 0
+occurrences v (x ∷ xs) = cond (eqb v x) (suc (occurrences v xs)) (occurrences v xs)
 
 -- n entries, each below n, and each number below n once
 unfoldable pub isPermutation : ℕ → List ℕ → Bool
-isPermutation n list = eqb (length list) n && (every (λ x. ltb x n) list && allBelow n (λ v. eqb (count v list) 1))
+isPermutation n list = eqb (length list) n && (every (λ x. ltb x n) list && allBelow n (λ v. eqb (occurrences v list) 1))
 
 pub tap-order-test : every (isPermutation 12) tapOrderTable ≡ true
-unfolding everyFrom allBelow isPermutation count
+unfolding everyFrom allBelow isPermutation occurrences
 tap-order-test = refl
 
 module _ (t : ℕ) (h : t < 4) where
@@ -33,7 +33,7 @@ module _ (t : ℕ) (h : t < 4) where
   below = every (λ x. ltb x 12) row
 
   abbrev once : Bool
-  once = allBelow 12 (λ v. eqb (count v row) 1)
+  once = allBelow 12 (λ v. eqb (occurrences v row) 1)
 
   pub row-permutes : isPermutation 12 row ≡ true
   row-permutes = every-at [] 0 (λ k x. isPermutation 12 x) tapOrderTable tap-order-test t h
@@ -48,6 +48,6 @@ module _ (t : ℕ) (h : t < 4) where
       ltb-true (tapOrder t j) 12
       (every-at 0 0 (λ k x. ltb x 12) row (both below once (both (eqb (length row) 12) _ row-permutes .1) .0) j (omega (arith, twelve-entries)))
 
-  pub each-once : (v : ℕ) → v < 12 → count v row ≡ 1
+  pub each-once : (v : ℕ) → v < 12 → occurrences v row ≡ 1
   unfolding isPermutation
-  each-once v hv = eqb-true (count v row) 1 (all-at 12 _ (both below once (both (eqb (length row) 12) _ row-permutes .1) .1) v hv)
+  each-once v hv = eqb-true (occurrences v row) 1 (all-at 12 _ (both below once (both (eqb (length row) 12) _ row-permutes .1) .1) v hv)

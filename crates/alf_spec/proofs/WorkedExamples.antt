@@ -8,7 +8,7 @@ use Prim.Native.Nat.{ℕ, zero, suc, _*_}
 use lib.IntN.{ℤ, pos, negsuc}
 use lib.ListN.{replicate}
 use Rattle.alf_spec.specs.declared.Class.{Class}
-use Rattle.alf_spec.specs.Lists.{everyFrom, allBelow, elem, sum, sumℤ, tabulate, painted}
+use Rattle.alf_spec.specs.Lists.{everyFrom, allBelow, elem, sumBelow, sumBelowℤ, tabulate, painted}
 use Rattle.alf_spec.specs.Arithmetic.{clip3, distance, rounded, clipSample, clippedChange, tap, tapSum, filtered}
 use Rattle.alf_spec.specs.Input.{Layout, Input}
 use Rattle.alf_spec.specs.Geometry.{Side, before, after, ctbSize, planeOf, lumaPlane, ctbAt, lineRule, bottomDistance}
@@ -69,9 +69,9 @@ plane =
     ++ (30 ∷ 10 ∷ 10 ∷ 10 ∷ 10 ∷ 10 ∷ 10 ∷ 10 ∷ [])
     ++ replicate 32 10
 
-abbrev pub times : {A : Type 0} → ℕ → List A → List A
-times zero xs = []
-times (suc n) xs = xs ++ times n xs
+abbrev pub repeated : {A : Type 0} → ℕ → List A → List A
+repeated zero xs = []
+repeated (suc n) xs = xs ++ repeated n xs
 
 -- twelve coefficients of which the last, 11, alone is set, to 64
 abbrev pub coefficients : List ℤ
@@ -84,10 +84,10 @@ input set c = record {
   luma = plane;
   chroma = [];
   sliceParams = 1 ∷ replicate 21 0;
-  bank = times 8 (times 25 (coefficients ++ replicate 12 (pos c)) ++ replicate 152 (pos 0));
+  bank = repeated 8 (repeated 25 (coefficients ++ replicate 12 (pos c)) ++ replicate 152 (pos 0));
   ctbParams = 1 ∷ 0 ∷ 0 ∷ set ∷ 0 ∷ 0 ∷ 0 ∷ 0 ∷ [];
   ctbList = 0 ∷ [];
-  fixedFilters = times 64 coefficients;
+  fixedFilters = repeated 64 coefficients;
   fixedMap = replicate 400 0;
   outputLength = 64;
 }
@@ -121,7 +121,7 @@ pub record WorkedExamples : Type 0 where
   pub P12-fixed : lumaSample (input 0 0) 3 1 ≡ 12
 
 pub worked-examples : WorkedExamples
-unfolding everyFrom allBelow elem sum sumℤ tabulate painted clip3 distance rounded clipSample clippedChange tap tapSum filtered ctbSize planeOf lineRule bottomDistance sliceOf subpicOf tileColumnOf tileRowOf tileDisables sliceDisables subpicDisables columnDisabled rowDisabled cornerDisabled find lineClip virtualClip sideClip clipPosition columnClip rowClip paddedRow pastCorner paddedColumn read ctbParam sliceParam bankNumber fixedCoeff classWindow filtH filtV filtD0 filtD1 windowRows windowSum windowSums larger diagonal mainGradient otherGradient strength activity transposeIdx filtIdx classOfSums classOf blockClass lumaF lumaC tapOrder lumaRows lumaPlus lumaMinus lumaWith lumaSample
+unfolding everyFrom allBelow elem sumBelow sumBelowℤ tabulate painted clip3 distance rounded clipSample clippedChange tap tapSum filtered ctbSize planeOf lineRule bottomDistance sliceOf subpicOf tileColumnOf tileRowOf tileDisables sliceDisables subpicDisables columnDisabled rowDisabled cornerDisabled find lineClip virtualClip sideClip clipPosition columnClip rowClip paddedRow pastCorner paddedColumn read ctbParam sliceParam bankNumber fixedCoeff classWindow filtH filtV filtD0 filtD1 windowRows windowSum windowSums larger diagonal mainGradient otherGradient strength activity transposeIdx filtIdx classOfSums classOf blockClass lumaF lumaC tapOrder lumaRows lumaPlus lumaMinus lumaWith lumaSample
 worked-examples = record {
   P1 = refl;
   P2 = refl;

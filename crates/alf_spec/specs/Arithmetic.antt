@@ -5,7 +5,7 @@ use Prim.Native.Nat.{ℕ, _+_, _-_, _^_}
 use lib.IntN.{ℤ, pos, negℤ, natAbs, _+ℤ_, _-ℤ_, _*ℤ_}
 use lib.Signed.{ltZ, shrZ}
 use lib.ListN.{getD}
-use Rattle.alf_spec.specs.Lists.{sumℤ}
+use Rattle.alf_spec.specs.Lists.{sumBelowℤ}
 
 -- Clip3( lo, hi, v )
 unfoldable pub clip3 : ℤ → ℤ → ℤ → ℤ
@@ -33,7 +33,7 @@ tap curr f c plus minus = f *ℤ (clippedChange curr c plus +ℤ clippedChange c
 
 -- (1467), (1508): n taps
 unfoldable pub tapSum : ℕ → ℕ → (ℕ → ℤ) → (ℕ → ℤ) → List ℕ → List ℕ → ℤ
-tapSum n curr f c plus minus = sumℤ n (λ j. tap curr (f j) (c j) (getD plus j 0) (getD minus j 0))
+tapSum n curr f c plus minus = sumBelowℤ n (λ j. tap curr (f j) (c j) (getD plus j 0) (getD minus j 0))
 
 -- (1468), (1469), and (1509), (1510): the filtered sample
 unfoldable pub filtered : ℕ → ℕ → ℕ → ℤ → ℕ

@@ -8,7 +8,7 @@ use Rattle.alf_spec.specs.declared.WindowRows.{WindowRows}
 use Rattle.alf_spec.specs.declared.Sums.{Sums}
 use Rattle.alf_spec.specs.declared.Gradient.{Gradient}
 use Rattle.alf_spec.specs.declared.Class.{Class}
-use Rattle.alf_spec.specs.Lists.{sum, tabulate}
+use Rattle.alf_spec.specs.Lists.{sumBelow, tabulate}
 use Rattle.alf_spec.specs.Arithmetic.{distance}
 use Rattle.alf_spec.specs.Input.{Layout}
 use Rattle.alf_spec.specs.Geometry.{inCtb, lineRule, lumaPlane}
@@ -47,7 +47,7 @@ windowRows line s y =
 
 -- (1476) to (1479): the sum over the columns −2 to 5 and those rows, where both offsets are even or both odd
 unfoldable pub windowSum : WindowRows → (ℕ → ℕ → ℕ) → ℕ
-windowSum r filt = sum (r .count) (λ j. sum 8 (λ i. cond (eqb ((i + 1) % 2) ((r .first + j) % 2)) (filt (i + 1) (r .first + j)) 0))
+windowSum r filt = sumBelow (r .count) (λ j. sumBelow 8 (λ i. cond (eqb ((i + 1) % 2) ((r .first + j) % 2)) (filt (i + 1) (r .first + j)) 0))
 
 -- sumV, sumH, sumD0, sumD1
 unfoldable pub windowSums : WindowRows → List ℕ → Sums

@@ -7,7 +7,7 @@ use lib.IntN.{ℤ, pos, negℤ, _+ℤ_, _-ℤ_, _*ℤ_}
 use lib.Dec.{eqb}
 use lib.ListN.{getD}
 use Rattle.alf_spec.specs.declared.CrossRows.{CrossRows}
-use Rattle.alf_spec.specs.Lists.{sumℤ}
+use Rattle.alf_spec.specs.Lists.{sumBelowℤ}
 use Rattle.alf_spec.specs.Arithmetic.{clip3, rounded, clipSample}
 use Rattle.alf_spec.specs.Input.{Input}
 use Rattle.alf_spec.specs.Geometry.{lumaPlane, chromaPlane, lumaPosition, indexOf, ctbAt, lineRule, bottomDistance}
@@ -32,7 +32,7 @@ crossTaps x y r =
 
 -- (1533), from the luma sample at the middle and those around it
 unfoldable pub crossSum : ℕ → (ℕ → ℤ) → List ℕ → ℤ
-crossSum middle f around = sumℤ 7 (λ j. f j *ℤ (pos (getD around j 0) -ℤ pos middle))
+crossSum middle f around = sumBelowℤ 7 (λ j. f j *ℤ (pos (getD around j 0) -ℤ pos middle))
 
 -- (1534) to (1536)
 unfoldable pub corrected : ℕ → ℕ → ℤ → ℕ

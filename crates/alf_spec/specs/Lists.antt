@@ -33,13 +33,13 @@ elem a [] = false
 elem a (x ∷ xs) = eqb a x || elem a xs
 
 -- f 0 + .. + f (n - 1), of natural numbers and of integers
-unfoldable pub sum : ℕ → (ℕ → ℕ) → ℕ
-sum zero f = 0
-sum (suc n) f = sum n f + f n
+unfoldable pub sumBelow : ℕ → (ℕ → ℕ) → ℕ
+sumBelow zero f = 0
+sumBelow (suc n) f = sumBelow n f + f n
 
-unfoldable pub sumℤ : ℕ → (ℕ → ℤ) → ℤ
-sumℤ zero f = pos 0
-sumℤ (suc n) f = sumℤ n f +ℤ f n
+unfoldable pub sumBelowℤ : ℕ → (ℕ → ℤ) → ℤ
+sumBelowℤ zero f = pos 0
+sumBelowℤ (suc n) f = sumBelowℤ n f +ℤ f n
 
 -- f 0, .., f (n - 1)
 unfoldable pub tabulate : ℕ → (ℕ → ℕ) → List ℕ
