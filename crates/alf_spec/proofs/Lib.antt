@@ -1,4 +1,5 @@
 -- Claims about the definitions alone, and laws of the words in `specs/Lists`.
+pub mod Examples
 pub mod Rejections
 pub mod SmallPictures
 pub mod TapOrder

@@ -12,42 +12,25 @@ use Rattle.alf_spec.specs.Geometry.{ctbSize, subWidth, subHeight, planeO
 use Rattle.alf_spec.specs.Boundary.{sliceOf}
 use Rattle.alf_spec.specs.Parameters.{ctbParam, sliceParam}
 use Rattle.alf_spec.specs.Faults.{sizeValid, pictureSizeValid, ctbSizeValid, bitDepthValid, chromaFormatValid, componentValid, layoutLengthsValid, filterLengthsValid, fixedLengthsValid, lengthsValid, apartAt, virtualListValid, virtualBoundariesValid, followsAt, tileListValid, tilesValid, cornerAt, cornersInRow, cornersValid, slicesValid, subpicturesValid, sliceParamsValid, ctbRangesValid, ctbChromaZero, ctbParamsValidAt, parametersValid, coeffValid, clipValid, isClip, bankNumberValid, bankValid, fixedValid, samplesValid, addressesValid, regionLengthValid, regionValid, unless, sizesFault, boundariesFault, tablesFault, fault, isolationFault}
+use Rattle.alf_spec.proofs.Examples.{picture, layout}
 
 -- ---- a picture of two by two CTBs of 32, of which a number or a list can be chosen
 
-abbrev picture : ℕ → ℕ → ℕ → ℕ → ℕ → Picture
-picture width log2 depth format count = record {
-  width = width;
-  height = 40;
-  «ctb_log2» = log2;
-  «bit_depth» = depth;
-  «chroma_format» = format;
-  «slice_count» = count;
-  «across_tiles» = true;
-  «across_slices» = true;
-}
+abbrev sized : ℕ → ℕ → ℕ → ℕ → ℕ → Picture
+sized width log2 depth format count = picture width 40 log2 depth format count
 
 abbrev good : Picture
-good = picture 40 5 8 1 2
+good = sized 40 5 8 1 2
 
-abbrev layout : Picture → List ℕ → List ℕ → List ℕ → List ℕ → List ℕ → Layout
-layout p columns tiles slices subpics switches = record {
-  picture = p;
-  virtualColumns = columns;
-  virtualRows = [];
-  tileColumns = tiles;
-  tileRows = 0 ∷ 0 ∷ [];
-  sliceMap = slices;
-  subpicMap = subpics;
-  subpicAcross = switches;
-}
+abbrev mapped : Picture → List ℕ → List ℕ → List ℕ → List ℕ → List ℕ → Layout
+mapped p columns tiles slices subpics switches = layout p columns tiles (0 ∷ 0 ∷ []) slices subpics switches
 
 -- in one tile, slice and subpicture
 abbrev plain : Picture → Layout
-plain p = layout p [] (0 ∷ 0 ∷ []) (replicate 4 0) (replicate 4 0) (replicate 64 1)
+plain p = mapped p [] (0 ∷ 0 ∷ []) (replicate 4 0) (replicate 4 0) (replicate 64 1)
 
-abbrev given : Layout → List ℕ → List ℕ → List ℤ → List ℕ → List ℕ → ℕ → Input
-given l sliceParams ctbParams bank plane list outputLength = record {
+abbrev inputOf : Layout → List ℕ → List ℕ → List ℤ → List ℕ → List ℕ → ℕ → Input
+inputOf l sliceParams ctbParams bank plane list outputLength = record {
   layout = l;
   luma = plane;
   chroma = replicate 400 0;
@@ -68,10 +51,10 @@ flat = replicate 6016 (pos 0)
 
 -- with all else in order
 abbrev onLayout : Layout → Input
-onLayout l = given l (zeros 22) (zeros 32) flat (zeros 1600) [] 1600
+onLayout l = inputOf l (zeros 22) (zeros 32) flat (zeros 1600) [] 1600
 
 abbrev onTables : List ℕ → List ℕ → List ℤ → List ℕ → List ℕ → Input
-onTables sliceParams ctbParams bank plane list = given (plain good) sliceParams ctbParams bank plane list 1600
+onTables sliceParams ctbParams bank plane list = inputOf (plain good) sliceParams ctbParams bank plane list 1600
 
 -- ---- the claim
 
@@ -80,27 +63,27 @@ pub record Rejections : Type 0 where
   pub widths : map sizeValid (8 ∷ 4096 ∷ 0 ∷ 12 ∷ 4104 ∷ []) ≡ true ∷ true ∷ false ∷ false ∷ false ∷ []
   -- accepted
   pub accepts : fault luma (onLayout (plain good)) ≡ 0
-  pub accepts-chroma : fault (chroma 1) (given (plain good) (zeros 22) (zeros 32) flat [] (3 ∷ 3 ∷ []) 400) ≡ 0
-  pub accepts-classes : fault classes (given (plain good) [] [] [] (zeros 1600) [] 100) ≡ 0
+  pub accepts-chroma : fault (chroma 1) (inputOf (plain good) (zeros 22) (zeros 32) flat [] (3 ∷ 3 ∷ []) 400) ≡ 0
+  pub accepts-classes : fault classes (inputOf (plain good) [] [] [] (zeros 1600) [] 100) ≡ 0
   pub accepts-region : isolationFault (plain good) (zeros 25) ≡ 0
   -- clips up to 2^B, where coefficients end at 127
   pub accepts-clips : fault luma (onTables (zeros 22) (zeros 32) (set (set flat 12 (pos 256)) 606 (pos 256)) (zeros 1600) []) ≡ 0
   -- slice and subpicture maps that the corner rules allow
-  pub accepts-slices : map (λ s. fault luma (onLayout (layout good [] (0 ∷ 1 ∷ []) s (zeros 4) (replicate 64 1)))) ((1 ∷ 0 ∷ 0 ∷ 0 ∷ []) ∷ (0 ∷ 0 ∷ 0 ∷ 1 ∷ []) ∷ (0 ∷ 1 ∷ 1 ∷ 0 ∷ []) ∷ (0 ∷ 0 ∷ 1 ∷ 1 ∷ []) ∷ []) ≡ zeros 4
-  pub accepts-subpictures : map (λ s. fault luma (onLayout (layout good [] (0 ∷ 1 ∷ []) (zeros 4) s (replicate 64 0)))) ((0 ∷ 63 ∷ 0 ∷ 63 ∷ []) ∷ (0 ∷ 1 ∷ 2 ∷ 3 ∷ []) ∷ (0 ∷ 0 ∷ 1 ∷ 2 ∷ []) ∷ (1 ∷ 0 ∷ 0 ∷ 1 ∷ []) ∷ []) ≡ zeros 4
+  pub accepts-slices : map (λ s. fault luma (onLayout (mapped good [] (0 ∷ 1 ∷ []) s (zeros 4) (replicate 64 1)))) ((1 ∷ 0 ∷ 0 ∷ 0 ∷ []) ∷ (0 ∷ 0 ∷ 0 ∷ 1 ∷ []) ∷ (0 ∷ 1 ∷ 1 ∷ 0 ∷ []) ∷ (0 ∷ 0 ∷ 1 ∷ 1 ∷ []) ∷ []) ≡ zeros 4
+  pub accepts-subpictures : map (λ s. fault luma (onLayout (mapped good [] (0 ∷ 1 ∷ []) (zeros 4) s (replicate 64 0)))) ((0 ∷ 63 ∷ 0 ∷ 63 ∷ []) ∷ (0 ∷ 1 ∷ 2 ∷ 3 ∷ []) ∷ (0 ∷ 0 ∷ 1 ∷ 2 ∷ []) ∷ (1 ∷ 0 ∷ 0 ∷ 1 ∷ []) ∷ []) ≡ zeros 4
   -- the numbers, one by one
-  pub r1 : map (λ w. fault luma (onLayout (plain (picture w 5 8 1 2)))) (0 ∷ 12 ∷ 4104 ∷ []) ≡ 1 ∷ 1 ∷ 1 ∷ []
-  pub r2 : map (λ k. fault luma (onLayout (plain (picture 40 k 8 1 2)))) (4 ∷ 8 ∷ []) ≡ 2 ∷ 2 ∷ []
-  pub r3 : map (λ k. fault luma (onLayout (plain (picture 40 5 k 1 2)))) (7 ∷ 13 ∷ []) ≡ 3 ∷ 3 ∷ []
-  pub r4 : fault luma (onLayout (plain (picture 40 5 8 2 2))) ∷ fault (chroma 0) (onLayout (plain (picture 40 5 8 0 2))) ∷ fault (crossComponent 2) (onLayout (plain good)) ∷ []
+  pub r1 : map (λ w. fault luma (onLayout (plain (sized w 5 8 1 2)))) (0 ∷ 12 ∷ 4104 ∷ []) ≡ 1 ∷ 1 ∷ 1 ∷ []
+  pub r2 : map (λ k. fault luma (onLayout (plain (sized 40 k 8 1 2)))) (4 ∷ 8 ∷ []) ≡ 2 ∷ 2 ∷ []
+  pub r3 : map (λ k. fault luma (onLayout (plain (sized 40 5 k 1 2)))) (7 ∷ 13 ∷ []) ≡ 3 ∷ 3 ∷ []
+  pub r4 : fault luma (onLayout (plain (sized 40 5 8 2 2))) ∷ fault (chroma 0) (onLayout (plain (sized 40 5 8 0 2))) ∷ fault (crossComponent 2) (onLayout (plain good)) ∷ []
       ≡ 4 ∷ 4 ∷ 4 ∷ []
-  pub r5 : map (λ n. fault luma (onLayout (plain (picture 40 5 8 1 n)))) (0 ∷ 257 ∷ 3 ∷ []) ≡ 5 ∷ 5 ∷ 5 ∷ []
-  pub r5-output : fault luma (given (plain good) (zeros 22) (zeros 32) flat (zeros 1600) [] 1599) ≡ 5
-  pub r6 : map (λ v. fault luma (onLayout (layout good v (0 ∷ 0 ∷ []) (zeros 4) (zeros 4) (replicate 64 1)))) ((4 ∷ []) ∷ (40 ∷ []) ∷ (8 ∷ 32 ∷ []) ∷ []) ≡ 6 ∷ 6 ∷ 6 ∷ []
-  pub r7 : map (λ t. fault luma (onLayout (layout good [] t (zeros 4) (zeros 4) (replicate 64 1)))) ((1 ∷ 1 ∷ []) ∷ (0 ∷ 2 ∷ []) ∷ []) ≡ 7 ∷ 7 ∷ []
-  pub r8 : map (λ s. fault luma (onLayout (layout good [] (0 ∷ 1 ∷ []) s (zeros 4) (replicate 64 1)))) ((0 ∷ 0 ∷ 0 ∷ 2 ∷ []) ∷ (2 ∷ 0 ∷ 0 ∷ 0 ∷ []) ∷ []) ≡ 8 ∷ 8 ∷ []
-  pub r9 : map (λ s. fault luma (onLayout (layout good [] (0 ∷ 1 ∷ []) (1 ∷ 0 ∷ 0 ∷ 0 ∷ []) s (replicate 64 1)))) ((64 ∷ 64 ∷ 64 ∷ 64 ∷ []) ∷ (0 ∷ 0 ∷ 64 ∷ 64 ∷ []) ∷ []) ≡ 9 ∷ 9 ∷ []
-  pub r9-switch : fault luma (onLayout (layout good [] (0 ∷ 0 ∷ []) (zeros 4) (zeros 4) (replicate 64 2))) ≡ 9
+  pub r5 : map (λ n. fault luma (onLayout (plain (sized 40 5 8 1 n)))) (0 ∷ 257 ∷ 3 ∷ []) ≡ 5 ∷ 5 ∷ 5 ∷ []
+  pub r5-output : fault luma (inputOf (plain good) (zeros 22) (zeros 32) flat (zeros 1600) [] 1599) ≡ 5
+  pub r6 : map (λ v. fault luma (onLayout (mapped good v (0 ∷ 0 ∷ []) (zeros 4) (zeros 4) (replicate 64 1)))) ((4 ∷ []) ∷ (40 ∷ []) ∷ (8 ∷ 32 ∷ []) ∷ []) ≡ 6 ∷ 6 ∷ 6 ∷ []
+  pub r7 : map (λ t. fault luma (onLayout (mapped good [] t (zeros 4) (zeros 4) (replicate 64 1)))) ((1 ∷ 1 ∷ []) ∷ (0 ∷ 2 ∷ []) ∷ []) ≡ 7 ∷ 7 ∷ []
+  pub r8 : map (λ s. fault luma (onLayout (mapped good [] (0 ∷ 1 ∷ []) s (zeros 4) (replicate 64 1)))) ((0 ∷ 0 ∷ 0 ∷ 2 ∷ []) ∷ (2 ∷ 0 ∷ 0 ∷ 0 ∷ []) ∷ []) ≡ 8 ∷ 8 ∷ []
+  pub r9 : map (λ s. fault luma (onLayout (mapped good [] (0 ∷ 1 ∷ []) (1 ∷ 0 ∷ 0 ∷ 0 ∷ []) s (replicate 64 1)))) ((64 ∷ 64 ∷ 64 ∷ 64 ∷ []) ∷ (0 ∷ 0 ∷ 64 ∷ 64 ∷ []) ∷ []) ≡ 9 ∷ 9 ∷ []
+  pub r9-switch : fault luma (onLayout (mapped good [] (0 ∷ 0 ∷ []) (zeros 4) (zeros 4) (replicate 64 2))) ≡ 9
   pub r10 : map (λ s. fault luma (onTables s (zeros 32) flat (zeros 1600) [])) (set (zeros 22) 21 8 ∷ []) ≡ 10 ∷ []
   pub r10-ctb : map (λ k. fault luma (onTables (set (zeros 22) 0 1) (set (zeros 32) (k + 8) (getD (2 ∷ 2 ∷ 2 ∷ 17 ∷ 8 ∷ 8 ∷ 5 ∷ 5 ∷ []) k 0)) flat (zeros 1600) [])) (0 ∷ 1 ∷ 2 ∷ 3 ∷ 4 ∷ 5 ∷ 6 ∷ 7 ∷ [])
       ≡ replicate 8 10
@@ -110,7 +93,7 @@ pub record Rejections : Type 0 where
   pub r13 : fault luma (onTables (zeros 22) (zeros 32) flat (zeros 1600) (0 ∷ 4 ∷ [])) ≡ 13
   pub r14 : isolationFault (plain good) (set (zeros 25) 24 2) ≡ 14
   -- the lowest of several
-  pub lowest : fault luma (given (plain (picture 12 8 13 2 0)) [] [] [] [] (9 ∷ []) 0) ≡ 1
+  pub lowest : fault luma (inputOf (plain (sized 12 8 13 2 0)) [] [] [] [] (9 ∷ []) 0) ≡ 1
 
 pub rejections : Rejections
 unfolding allBelow everyFrom ctbSize subWidth subHeight planeOf sliceOf ctbParam sliceParam pictureSizeValid ctbSizeValid bitDepthValid chromaFormatValid componentValid layoutLengthsValid filterLengthsValid fixedLengthsValid lengthsValid apartAt virtualListValid virtualBoundariesValid followsAt tileListValid tilesValid cornerAt cornersInRow cornersValid slicesValid subpicturesValid sliceParamsValid ctbRangesValid ctbChromaZero ctbParamsValidAt parametersValid coeffValid clipValid isClip bankNumberValid bankValid fixedValid samplesValid addressesValid regionLengthValid regionValid unless sizesFault boundariesFault tablesFault fault isolationFault

@@ -1,5 +1,5 @@
 -- Small pictures worked out by the definitions: classes and the three filters, with rows on both sides of the line-buffer boundary. The numbers were
--- found by a model written from H.266 and paper 01 alone. Assumes nothing.
+-- found by a separate model of H.266 and paper 01 that goes sample by sample. Assumes nothing.
 use mathlib.Core.Path.{_≡_, refl}
 use mathlib.Core.Bool.{Bool, true, false, _&&_, _||_, cond}
 use mathlib.Core.List.{List, [], _∷_, _++_, map}
@@ -20,7 +20,8 @@ use Rattle.alf_spec.specs.Chroma.{chromaRows, chromaPlus, chromaMinus, c
 use Rattle.alf_spec.specs.CrossComponent.{crossRows, crossTaps, crossSum, corrected, crossWith, crossSample}
 use Rattle.alf_spec.specs.Process.{classAt, classMap, lumaOn, isFiltered, atIndex, filteredPlane, result}
 use Rattle.alf_spec.specs.Faults.{pictureSizeValid, ctbSizeValid, bitDepthValid, chromaFormatValid, componentValid, layoutLengthsValid, filterLengthsValid, fixedLengthsValid, lengthsValid, apartAt, virtualListValid, virtualBoundariesValid, followsAt, tileListValid, tilesValid, cornerAt, cornersInRow, cornersValid, slicesValid, subpicturesValid, sliceParamsValid, ctbRangesValid, ctbChromaZero, ctbParamsValidAt, parametersValid, coeffValid, clipValid, isClip, bankNumberValid, bankValid, fixedValid, samplesValid, addressesValid, unless, sizesFault, boundariesFault, tablesFault, fault}
-use Rattle.alf_spec.proofs.WorkedExamples.{layout, input}
+use Rattle.alf_spec.proofs.Examples.{picture, layout}
+use Rattle.alf_spec.proofs.WorkedExamples.{grid, input}
 
 -- ---- one CTB of 32 by 32 in 4:2:0, depth 10, with a texture
 
@@ -37,25 +38,7 @@ clipPlace n = (ltb n 600 && leb 12 (n % 24)) || (leb 600 n && (ltb n 696 && leb 
 
 abbrev ctb32 : Input
 ctb32 = record {
-  layout = record {
-    picture = record {
-      width = 32;
-      height = 32;
-      «ctb_log2» = 5;
-      «bit_depth» = 10;
-      «chroma_format» = 1;
-      «slice_count» = 1;
-      «across_tiles» = true;
-      «across_slices» = true;
-    };
-    virtualColumns = [];
-    virtualRows = [];
-    tileColumns = 0 ∷ [];
-    tileRows = 0 ∷ [];
-    sliceMap = 0 ∷ [];
-    subpicMap = 0 ∷ [];
-    subpicAcross = replicate 64 1;
-  };
+  layout = layout (picture 32 32 5 10 1 1) [] (0 ∷ []) (0 ∷ []) (0 ∷ []) (0 ∷ []) (replicate 64 1);
   luma = texture 32 1024;
   chroma = texture 16 256;
   sliceParams = 2 ∷ 6 ∷ 1 ∷ 0 ∷ 0 ∷ 0 ∷ 0 ∷ 0 ∷ 4 ∷ 2 ∷ 7 ∷ [];
@@ -71,7 +54,7 @@ ctb32 = record {
 
 abbrev twoCtbs : ℕ → ℕ → List ℕ → Input
 twoCtbs flag0 flag1 list = record {
-  layout = layout 2 64 8 (0 ∷ 0 ∷ []);
+  layout = grid 2 1 64 8 (0 ∷ 0 ∷ []);
   luma = replicate 512 0;
   chroma = [];
   sliceParams = replicate 22 0;

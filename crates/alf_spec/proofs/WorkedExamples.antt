@@ -4,7 +4,7 @@ use mathlib.Core.Path.{_≡_, refl}
 use mathlib.Core.Bool.{true, false}
 use mathlib.Core.List.{List, [], _∷_, _++_, map}
 use mathlib.Core.Option.{Option, some, none}
-use Prim.Native.Nat.{ℕ, zero, suc, _*_}
+use Prim.Native.Nat.{ℕ, _*_}
 use lib.IntN.{ℤ, pos, negsuc}
 use lib.ListN.{replicate}
 use Rattle.alf_spec.specs.declared.Class.{Class}
@@ -17,37 +17,21 @@ use Rattle.alf_spec.specs.Padding.{columnClip, rowClip, pastCorner, padd
 use Rattle.alf_spec.specs.Parameters.{ctbParam, sliceParam, bankNumber, fixedCoeff}
 use Rattle.alf_spec.specs.Classes.{classWindow, filtH, filtV, filtD0, filtD1, windowRows, windowSum, windowSums, larger, diagonal, mainGradient, otherGradient, strength, activity, transposeIdx, filtIdx, classOfSums, classOf, blockClass}
 use Rattle.alf_spec.specs.Luma.{lumaF, lumaC, tapOrder, lumaRows, lumaPlus, lumaMinus, lumaWith, lumaSample}
+use Rattle.alf_spec.proofs.Examples.{picture, layout, repeated}
 
 -- ---- what the examples are about; what 01 leaves open in one is chosen here
 
--- a picture of n by n CTBs of 32 luma samples, depth 8, in one tile and one subpicture, with the slice switch off
-abbrev pub layout : ℕ → ℕ → ℕ → List ℕ → Layout
-layout n width height slices = record {
-  picture = record {
-    width = width;
-    height = height;
-    «ctb_log2» = 5;
-    «bit_depth» = 8;
-    «chroma_format» = 0;
-    «slice_count» = 2;
-    «across_tiles» = true;
-    «across_slices» = false;
-  };
-  virtualColumns = [];
-  virtualRows = [];
-  tileColumns = replicate n 0;
-  tileRows = replicate n 0;
-  sliceMap = slices;
-  subpicMap = replicate (n * n) 0;
-  subpicAcross = replicate 64 1;
-}
+-- columns by rows CTBs of 32 luma samples, depth 8, in one tile and one subpicture, with the slice switch off
+abbrev pub grid : ℕ → ℕ → ℕ → ℕ → List ℕ → Layout
+grid columns rows width height slices =
+    layout (picture width height 5 8 0 2) [] (replicate columns 0) (replicate rows 0) slices (replicate (columns * rows) 0) (replicate 64 1)
 
 -- four CTBs in one slice, and with another slice upper left
 abbrev plain : ℕ → Layout
-plain height = layout 2 64 height (replicate 4 0)
+plain height = grid 2 2 64 height (replicate 4 0)
 
 abbrev cornered : Layout
-cornered = layout 2 64 64 (0 ∷ 1 ∷ 1 ∷ 1 ∷ [])
+cornered = grid 2 2 64 64 (0 ∷ 1 ∷ 1 ∷ 1 ∷ [])
 
 -- the clip position above or below a row of the CTB at 0, with no virtual row
 abbrev rowEdge : ℕ → Side → Option ℕ
@@ -69,10 +53,6 @@ plane =
     ++ (30 ∷ 10 ∷ 10 ∷ 10 ∷ 10 ∷ 10 ∷ 10 ∷ 10 ∷ [])
     ++ replicate 32 10
 
-abbrev pub repeated : {A : Type 0} → ℕ → List A → List A
-repeated zero xs = []
-repeated (suc n) xs = xs ++ repeated n xs
-
 -- twelve coefficients of which the last, 11, alone is set, to 64
 abbrev pub coefficients : List ℤ
 coefficients = replicate 11 (pos 0) ++ (pos 64 ∷ [])
@@ -80,7 +60,7 @@ coefficients = replicate 11 (pos 0) ++ (pos 64 ∷ [])
 -- that plane, with a luma set and a bank whose luma clips are all c
 abbrev pub input : ℕ → ℕ → Input
 input set c = record {
-  layout = layout 1 8 8 (0 ∷ []);
+  layout = grid 1 1 8 8 (0 ∷ []);
   luma = plane;
   chroma = [];
   sliceParams = 1 ∷ replicate 21 0;

@@ -9,6 +9,7 @@ use Rattle.alf_spec.specs.declared.Answer.the-variants.{Accepted, Reject
 use Rattle.alf_spec.specs.declared.Isolation.{Isolation}
 use Rattle.alf_spec.specs.declared.Isolation.the-variants as isolation
 
+-- 01's table: the number of each cause
 abbrev pub faultNumber : Fault → ℕ
 faultNumber PictureSize = 1
 faultNumber CtbSize = 2
@@ -30,6 +31,7 @@ abbrev pub number : Answer → ℕ
 number Accepted = 0
 number (Rejected f) = faultNumber f
 
+-- the same of the isolation test, which accepts whether it says isolated or not
 abbrev pub isolationNumber : Isolation → ℕ
 isolationNumber isolation.Isolated = 0
 isolationNumber isolation.NotIsolated = 0

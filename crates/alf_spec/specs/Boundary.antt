@@ -12,67 +12,80 @@ use Rattle.alf_spec.specs.Geometry.{Side, before, after, next, hasNext, 
 
 -- ---- sides
 
--- the slice, subpicture and tile of a CTB
 module _ (l : Layout) (c : Ctb) where
+  -- the slice of a CTB: 01, one byte per CTB
   unfoldable pub sliceOf : ℕ
   sliceOf = getD (l .sliceMap) (address l c) 0
 
+  -- its subpicture: 01, a number 0 to 63 per CTB
   unfoldable pub subpicOf : ℕ
   subpicOf = getD (l .subpicMap) (address l c) 0
 
+  -- its tile: 01, a tile column number per CTB column
   unfoldable pub tileColumnOf : ℕ
   tileColumnOf = getD (l .tileColumns) (c .column) 0
 
+  -- and a tile row number per CTB row
   unfoldable pub tileRowOf : ℕ
   tileRowOf = getD (l .tileRows) (c .row) 0
 
 -- the CTB n lies in another tile, slice or subpicture than c and, respectively, the tile switch, the slice switch or c's own subpicture
 -- switch is off
 module _ (l : Layout) (c n : Ctb) where
+  -- another tile, and the tile switch is off
   unfoldable pub tileDisables : Bool
   tileDisables = not (eqb (tileColumnOf l c) (tileColumnOf l n) && eqb (tileRowOf l c) (tileRowOf l n)) && not (l .picture .«across_tiles»)
 
+  -- another slice, and the slice switch is off
   unfoldable pub sliceDisables : Bool
   sliceDisables = not (eqb (sliceOf l c) (sliceOf l n)) && not (l .picture .«across_slices»)
 
+  -- another subpicture, and this CTB's own subpicture switch is off
   unfoldable pub subpicDisables : Bool
   subpicDisables = not (eqb (subpicOf l c) (subpicOf l n)) && eqb (getD (l .subpicAcross) (subpicOf l c) 0) 0
 
+  -- one or more of these, as 8.8.5.5 has it
   abbrev pub disables : Bool
   disables = tileDisables || (sliceDisables || subpicDisables)
 
--- the CTBs next to c along its row, along its column, and up-left or down-right of it
+-- the CTB left or right of c
 abbrev pub besideCtb : Side → Ctb → Ctb
 besideCtb d c = record { column = next d (c .column); row = c .row }
 
+-- the CTB above or below
 abbrev pub stackedCtb : Side → Ctb → Ctb
 stackedCtb d c = record { column = c .column; row = next d (c .row) }
 
+-- the CTB up-left or down-right, at ( xCtb − CtbSizeY, yCtb − CtbSizeY ) or ( xCtb + CtbSizeY, yCtb + CtbSizeY )
 abbrev pub diagonalCtb : Side → Ctb → Ctb
 diagonalCtb d c = record { column = next d (c .column); row = next d (c .row) }
 
--- filtering across the left or right side of a CTB, its top or bottom, and its upper left or lower right corner is disabled
--- (clipTopLeftFlag, clipBotRightFlag); at the picture's rim there is no CTB across
+-- (01: closed) filtering across the left or right side of a CTB is disabled; at the picture's rim there is no CTB across
 unfoldable pub columnDisabled : Layout → Ctb → Side → Bool
 columnDisabled l c d = hasNext (ctbColumns l) d (c .column) && disables l c (besideCtb d c)
 
+-- across its top or bottom
 unfoldable pub rowDisabled : Layout → Ctb → Side → Bool
 rowDisabled l c d = hasNext (ctbRows l) d (c .row) && disables l c (stackedCtb d c)
 
+-- across its upper left or lower right corner, by slices alone: clipTopLeftFlag, clipBotRightFlag
 unfoldable pub cornerDisabled : Layout → Ctb → Side → Bool
 cornerDisabled l c d = hasNext (ctbColumns l) d (c .column) && (hasNext (ctbRows l) d (c .row) && sliceDisables l c (diagonalCtb d c))
 
 -- ---- clip positions
 
+-- a position, where the test passes
 abbrev pub only : Bool → ℕ → Option ℕ
 only true e = some e
 only false e = none
 
+-- the first position that a rule finds
 infixr 2 _orElse_
 abbrev pub _orElse_ : Option ℕ → Option ℕ → Option ℕ
 _orElse_ (some e) o = some e
 _orElse_ none o = o
 
+-- the first entry that passes, "for any n" of (1511) to (1514)
 unfoldable pub find : (ℕ → Bool) → List ℕ → Option ℕ
 find test [] = none
 find test (v ∷ vs) = only (test v) v orElse find test vs

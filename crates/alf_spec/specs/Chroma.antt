@@ -17,8 +17,9 @@ chromaRows line d =
     (cond (line && (eqb d 1 || eqb d 4)) (record { y1 = 1; y2 = 1; shift = 7 })
     (record { y1 = 1; y2 = 2; shift = 7 }))
 
--- (1508): where the taps 0 to 5 read, the first sample of each pair and the second, which lies opposite
+-- where the taps 0 to 5 read: each at two samples that lie opposite each other
 module _ (x y : ℕ) (r : ChromaRows) where
+  -- (1508): the first of each pair
   unfoldable pub chromaPlus : List (ℕ × ℕ)
   chromaPlus =
       (x, y + r .y2)
@@ -26,6 +27,7 @@ module _ (x y : ℕ) (r : ChromaRows) where
       ∷ (x + 2, y) ∷ (x + 1, y)
       ∷ []
 
+  -- (1508): the second of each pair
   unfoldable pub chromaMinus : List (ℕ × ℕ)
   chromaMinus =
       (x, y - r .y2)
@@ -35,11 +37,13 @@ module _ (x y : ℕ) (r : ChromaRows) where
 
 -- the sample at (x, y) of a component filtered
 module _ (i : Input) (component x y : ℕ) where
+  -- Table 46 at row y
   abbrev pub chromaRowsAt : ChromaRows
   chromaRowsAt =
       chromaRows (lineRule (chromaPlane (i .layout) .rows) (lumaPosition (chromaPlane (i .layout) .rows) y))
       (bottomDistance (chromaPlane (i .layout) .rows) y)
 
+  -- (1503), (1504): the sample at a neighbour's position
   abbrev pub chromaRead : ℕ × ℕ → ℕ
   chromaRead p = read (i .layout) (chromaPlane (i .layout)) x y (i .chroma) (p .0) (p .1)
 
@@ -53,5 +57,6 @@ module _ (i : Input) (component x y : ℕ) where
       (map chromaRead (chromaPlus x y r))
       (map chromaRead (chromaMinus x y r)))
 
+  -- (1510): the filtered sample
   unfoldable pub chromaSample : ℕ
   chromaSample = chromaWith chromaRowsAt

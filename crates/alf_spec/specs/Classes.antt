@@ -22,19 +22,23 @@ unfoldable pub classWindow : Layout → List ℕ → ℕ → ℕ → List ℕ
 classWindow l plane x4 y4 = tabulate 100 (λ k. read l (lumaPlane l) x4 y4 plane (x4 + k % 10 - 3) (y4 + k / 10 - 3))
 
 module _ (window : List ℕ) where
+  -- recPicture[ hx4 + i − 3 ][ vy4 + j − 3 ]
   abbrev pub at : ℕ → ℕ → ℕ
   at i j = getD window (10 * j + i) 0
 
-  -- (1472) to (1475)
+  -- (1472)
   unfoldable pub filtH : ℕ → ℕ → ℕ
   filtH i j = distance (2 * at i j) (at (i - 1) j + at (i + 1) j)
 
+  -- (1473)
   unfoldable pub filtV : ℕ → ℕ → ℕ
   filtV i j = distance (2 * at i j) (at i (j - 1) + at i (j + 1))
 
+  -- (1474)
   unfoldable pub filtD0 : ℕ → ℕ → ℕ
   filtD0 i j = distance (2 * at i j) (at (i - 1) (j - 1) + at (i + 1) (j + 1))
 
+  -- (1475)
   unfoldable pub filtD1 : ℕ → ℕ → ℕ
   filtD1 i j = distance (2 * at i j) (at (i + 1) (j - 1) + at (i - 1) (j + 1))
 
@@ -55,18 +59,19 @@ windowSums r w = record { v = windowSum r (filtV w); h = windowSum r (filtH w); 
 
 -- ---- direction, activity, class
 
--- (1498), and the transpose table above (1500)
+-- (1498): varTab
 abbrev pub activityTable : List ℕ
 activityTable = 0 ∷ 1 ∷ 2 ∷ 2 ∷ 2 ∷ 2 ∷ 2 ∷ 3 ∷ 3 ∷ 3 ∷ 3 ∷ 3 ∷ 3 ∷ 3 ∷ 3 ∷ 4 ∷ []
 
+-- transposeTable, above (1500)
 abbrev pub transposeTable : List ℕ
 transposeTable = 0 ∷ 1 ∷ 0 ∷ 2 ∷ 2 ∷ 3 ∷ 1 ∷ 3 ∷ []
 
+-- the larger of two sums, the smaller, and the larger one's direction
 abbrev pub gradient : ℕ → ℕ → ℕ → Gradient
 gradient large small direction = record { large = large; small = small; direction = direction }
 
--- of two sums a and b with their directions: the larger, the smaller, and the larger one's direction. a counts as larger only if it is
--- greater than b
+-- of two sums with their directions; a counts as larger only if it is greater than b
 unfoldable pub larger : ℕ → ℕ → ℕ → ℕ → Gradient
 larger a b directionA directionB = cond (ltb b a) (gradient a b directionA) (gradient b a directionB)
 
@@ -82,10 +87,11 @@ dd s = larger (s .d0) (s .d1) 0 2
 unfoldable pub diagonal : Gradient → Gradient → Bool
 diagonal d hv = ltb (hv .large * d .small) (d .large * hv .small)
 
--- (1493) to (1496): hvd1, hvd0 and dir1 are those of the main gradient, dir2 is the other's
+-- (1493) to (1495): hvd1, hvd0 and dir1 are the main gradient's
 unfoldable pub mainGradient : Sums → Gradient
 mainGradient s = cond (diagonal (dd s) (hv s)) (dd s) (hv s)
 
+-- (1496): dir2 is the other gradient's
 unfoldable pub otherGradient : Sums → Gradient
 otherGradient s = cond (diagonal (dd s) (hv s)) (hv s) (dd s)
 
@@ -114,9 +120,11 @@ classOfSums depth factor s = record {
   transpose = transposeIdx (mainGradient s) (otherGradient s);
 }
 
+-- of a window: (1476) to (1500)
 unfoldable pub classOf : ℕ → WindowRows → List ℕ → Class
 classOf depth r window = classOfSums depth (r .factor) (windowSums r window)
 
+-- of a block: clause 8.8.5.3 whole
 unfoldable pub blockClass : Layout → List ℕ → ℕ → ℕ → Class
 blockClass l plane x4 y4 =
     classOf (l .picture .«bit_depth»)

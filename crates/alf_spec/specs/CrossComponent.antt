@@ -41,15 +41,19 @@ corrected depth curr sum =
 
 -- the sample at (x, y) of a component filtered; ( xL, yL ) is its luma position
 module _ (i : Input) (component x y : ℕ) where
+  -- its column
   abbrev pub xL : ℕ
   xL = lumaPosition (chromaPlane (i .layout) .columns) x
 
+  -- its row
   abbrev pub yL : ℕ
   yL = lumaPosition (chromaPlane (i .layout) .rows) y
 
+  -- Table 47 at the luma row y * subHeightC
   abbrev pub crossRowsAt : CrossRows
   crossRowsAt = crossRows (lineRule (lumaPlane (i .layout) .rows) yL) (bottomDistance (lumaPlane (i .layout) .rows) yL)
 
+  -- (1529), (1530): the luma sample at a neighbour's position
   abbrev pub crossRead : ℕ × ℕ → ℕ
   crossRead p = read (i .layout) (lumaPlane (i .layout)) xL yL (i .luma) (p .0) (p .1)
 
@@ -61,5 +65,6 @@ module _ (i : Input) (component x y : ℕ) where
       (crossCoeff i (crossAps i (ctbAt (chromaPlane (i .layout)) x y) component) component (crossIndex i (ctbAt (chromaPlane (i .layout)) x y) component - 1))
       (map crossRead (crossTaps xL yL r)))
 
+  -- (1536): the filtered sample
   unfoldable pub crossSample : ℕ
   crossSample = crossWith crossRowsAt

@@ -87,6 +87,7 @@ apartAt s list k = leb (getD list k 0 + s) (getD list (k + 1) 0)
 unfoldable pub virtualListValid : ℕ → ℕ → List ℕ → Bool
 virtualListValid size s list = leb (length list) 3 && (every (virtualPositionValid size) list && allBelow (length list - 1) (apartAt s list))
 
+-- 6: columns and rows
 unfoldable pub virtualBoundariesValid : Layout → Bool
 virtualBoundariesValid l =
     virtualListValid (l .picture .width) (ctbSize (l .picture)) (l .virtualColumns)
@@ -102,6 +103,7 @@ followsAt list k = eqb (getD list (k + 1) 0) (getD list k 0) || eqb (getD list (
 unfoldable pub tileListValid : List ℕ → Bool
 tileListValid list = eqb (getD list 0 0) 0 && allBelow (length list - 1) (followsAt list)
 
+-- 7: columns and rows
 unfoldable pub tilesValid : Layout → Bool
 tilesValid l = tileListValid (l .tileColumns) && tileListValid (l .tileRows)
 
@@ -119,14 +121,16 @@ sliceCorner a b c d = not (oddOneOut a c d b) && not (oddOneOut a b d c)
 abbrev pub subpicCorner : ℕ → ℕ → ℕ → ℕ → Bool
 subpicCorner a b c d = not (oddOneOut a b c d) && (not (oddOneOut a b d c) && (not (oddOneOut a c d b) && not (oddOneOut b c d a)))
 
--- the rule at the corner whose upper left CTB is column x of the row that begins at `from`; at each corner where four CTBs of the grid meet
+-- the rule at the corner whose upper left CTB is column x of the row that begins at `from`
 unfoldable pub cornerAt : (ℕ → ℕ → ℕ → ℕ → Bool) → List ℕ → ℕ → ℕ → ℕ → Bool
 cornerAt rule map columns from x =
     rule (getD map (from + x) 0) (getD map (from + x + 1) 0) (getD map (from + columns + x) 0) (getD map (from + columns + x + 1) 0)
 
+-- at each corner between two rows of CTBs
 unfoldable pub cornersInRow : (ℕ → ℕ → ℕ → ℕ → Bool) → List ℕ → ℕ → ℕ → Bool
 cornersInRow rule map columns y = allBelow (columns - 1) (cornerAt rule map columns (y * columns))
 
+-- at each corner where four CTBs of the grid meet
 unfoldable pub cornersValid : (ℕ → ℕ → ℕ → ℕ → Bool) → Layout → List ℕ → Bool
 cornersValid rule l map = allBelow (ctbRows l - 1) (cornersInRow rule map (ctbColumns l))
 
@@ -162,11 +166,13 @@ module _ (i : Input) (c : Ctb) where
       && (eqb (chromaAlternative i c 0) 0 && (eqb (chromaAlternative i c 1) 0
       && (eqb (crossIndex i c 0) 0 && eqb (crossIndex i c 1) 0))))
 
+-- of the CTB at address k
 unfoldable pub ctbParamsValidAt : Input → ℕ → Bool
 ctbParamsValidAt i k =
     ctbRangesValid i (ctbOf (i .layout) k)
     && implies (eqb (i .layout .picture .«chroma_format») 0) (ctbChromaZero i (ctbOf (i .layout) k))
 
+-- 10: all slice parameters, and the CTB parameters of every CTB
 unfoldable pub parametersValid : Input → Bool
 parametersValid i = sliceParamsValid i && allBelow (ctbTotal (i .layout)) (ctbParamsValidAt i)
 
@@ -184,6 +190,7 @@ clipValid depth z = leZ (pos 0) z && leZ z (pos (2 ^ depth))
 unfoldable pub isClip : ℕ → Bool
 isClip n = cond (ltb n 600) (leb 12 (n % 24)) (ltb n 696 && leb 6 ((n - 600) % 12))
 
+-- number k of the bank is in its range
 unfoldable pub bankNumberValid : ℕ → ℕ → ℤ → Bool
 bankNumberValid depth k z = cond (isClip (k % 752)) (clipValid depth z) (coeffValid z)
 
@@ -220,13 +227,14 @@ unfoldable pub unless : Bool → ℕ → ℕ → ℕ
 unless true n rest = rest
 unless false n rest = n
 
--- 1 to 3, 6 to 9: what every operation is given
+-- 1 to 3, for every operation
 unfoldable pub sizesFault : Picture → ℕ → ℕ
 sizesFault p rest =
     unless (pictureSizeValid p) 1
     (unless (ctbSizeValid p) 2
     (unless (bitDepthValid p) 3 rest))
 
+-- 6 to 9, for every operation
 unfoldable pub boundariesFault : Layout → ℕ → ℕ
 boundariesFault l rest =
     unless (virtualBoundariesValid l) 6

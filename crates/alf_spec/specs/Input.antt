@@ -34,6 +34,8 @@ pub record Given : Type 0 where
   pub filters : Bool
   pub fixed : Bool
 
+-- 01: classes are lent the luma plane; the three filters slice rows, bank, CTB choices, list and their input planes; the luma filter alone
+-- also the fixed tables
 abbrev pub given : Operation → Given
 given classes = record { luma = true; chroma = false; filters = false; fixed = false }
 given luma = record { luma = true; chroma = false; filters = true; fixed = true }

@@ -22,9 +22,11 @@ openStep a disabled d x =
     && (eqb (x / a .ctb) (next d x / a .ctb) || not (disabled d)))
 
 module _ (l : Layout) (x y : ℕ) where
+  -- a side step left or right
   unfoldable pub columnStep : Side → Bool
   columnStep d = openStep (lumaPlane l .columns) (columnDisabled l (ctbAt (lumaPlane l) x y)) d x
 
+  -- a side step up or down
   unfoldable pub rowStep : Side → Bool
   rowStep e = openStep (lumaPlane l .rows) (rowDisabled l (ctbAt (lumaPlane l) x y)) e y
 
@@ -41,6 +43,7 @@ module _ (l : Layout) (x y : ℕ) where
 unfoldable pub inside : Layout → List ℕ → ℕ → ℕ → Bool
 inside l region x y = eqb (getD region (indexOf (blockPlane l) (x / 8) (y / 8)) 0) 1
 
+-- the test passes on both sides
 abbrev pub bothSides : (Side → Bool) → Bool
 bothSides test = test before && test after
 
@@ -56,17 +59,20 @@ unfoldable pub isolated : Layout → List ℕ → Bool
 isolated l region =
     allBelow (l .picture .height) (λ y. allBelow (l .picture .width) (λ x. implies (inside l region x y) (staysInside l region x y)))
 
--- the region of all blocks of the CTBs that pass a test; of one slice, one tile, one subpicture
+-- the region of all blocks of the CTBs that pass a test
 unfoldable pub regionOf : Layout → (Ctb → Bool) → List ℕ
 regionOf l test =
     tabulate (planeLength (blockPlane l)) (λ k. cond (test (ctbAt (blockPlane l) (columnOf (blockPlane l) k) (rowOf (blockPlane l) k))) 1 0)
 
+-- 01: all blocks of the CTBs with one slice byte
 unfoldable pub sliceRegion : Layout → ℕ → List ℕ
 sliceRegion l n = regionOf l (λ c. eqb (sliceOf l c) n)
 
+-- 01: with one pair of tile numbers
 unfoldable pub tileRegion : Layout → ℕ → ℕ → List ℕ
 tileRegion l column row = regionOf l (λ c. eqb (tileColumnOf l c) column && eqb (tileRowOf l c) row)
 
+-- 01: with one subpicture number
 unfoldable pub subpicRegion : Layout → ℕ → List ℕ
 subpicRegion l n = regionOf l (λ c. eqb (subpicOf l c) n)
 

@@ -32,11 +32,12 @@ unfoldable pub elem : ℕ → List ℕ → Bool
 elem a [] = false
 elem a (x ∷ xs) = eqb a x || elem a xs
 
--- f 0 + .. + f (n - 1), of natural numbers and of integers
+-- f 0 + .. + f (n - 1)
 unfoldable pub sumBelow : ℕ → (ℕ → ℕ) → ℕ
 sumBelow zero f = 0
 sumBelow (suc n) f = sumBelow n f + f n
 
+-- the same of integers
 unfoldable pub sumBelowℤ : ℕ → (ℕ → ℤ) → ℤ
 sumBelowℤ zero f = pos 0
 sumBelowℤ (suc n) f = sumBelowℤ n f +ℤ f n

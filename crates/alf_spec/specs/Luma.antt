@@ -15,11 +15,13 @@ use Rattle.alf_spec.specs.Padding.{read}
 use Rattle.alf_spec.specs.Parameters.{lumaSet, lumaAps, lumaCoeff, lumaClip, fixedCoeff}
 use Rattle.alf_spec.specs.Classes.{blockClass}
 
--- (1454) to (1459): f[ j ] and c[ j ] of a CTB for a class
+-- the filter of a CTB for a class
 module _ (i : Input) (c : Ctb) (filter j : ℕ) where
+  -- (1454), (1455), (1457), (1458): f[ j ]
   unfoldable pub lumaF : ℤ
   lumaF = cond (ltb (lumaSet i c) 16) (fixedCoeff i (lumaSet i c) filter j) (lumaCoeff i (lumaAps i c (lumaSet i c - 16)) filter j)
 
+  -- (1456), (1459): c[ j ]
   unfoldable pub lumaC : ℤ
   lumaC = cond (ltb (lumaSet i c) 16) (pos (2 ^ i .layout .picture .«bit_depth»)) (lumaClip i (lumaAps i c (lumaSet i c - 16)) filter j)
 
@@ -32,6 +34,7 @@ tapOrderTable =
     ∷ (9 ∷ 8 ∷ 10 ∷ 4 ∷ 3 ∷ 7 ∷ 11 ∷ 5 ∷ 1 ∷ 0 ∷ 2 ∷ 6 ∷ [])
     ∷ []
 
+-- idx[ j ]
 unfoldable pub tapOrder : ℕ → ℕ → ℕ
 tapOrder transpose j = getD (getD tapOrderTable transpose []) j 0
 
@@ -43,8 +46,9 @@ lumaRows line d =
     (cond (line && (eqb d 7 || eqb d 2)) (record { y1 = 1; y2 = 2; y3 = 2; shift = 7 })
     (record { y1 = 1; y2 = 2; y3 = 3; shift = 7 })))
 
--- (1467): where the taps 0 to 11 read, the first sample of each pair and the second, which lies opposite
+-- where the taps 0 to 11 read: each at two samples that lie opposite each other
 module _ (x y : ℕ) (r : LumaRows) where
+  -- (1467): the first of each pair
   unfoldable pub lumaPlus : List (ℕ × ℕ)
   lumaPlus =
       (x, y + r .y3)
@@ -53,6 +57,7 @@ module _ (x y : ℕ) (r : LumaRows) where
       ∷ (x + 3, y) ∷ (x + 2, y) ∷ (x + 1, y)
       ∷ []
 
+  -- (1467): the second of each pair
   unfoldable pub lumaMinus : List (ℕ × ℕ)
   lumaMinus =
       (x, y - r .y3)
@@ -63,9 +68,11 @@ module _ (x y : ℕ) (r : LumaRows) where
 
 -- the sample at (x, y) filtered
 module _ (i : Input) (x y : ℕ) where
+  -- Table 45 at row y
   abbrev pub lumaRowsAt : LumaRows
   lumaRowsAt = lumaRows (lineRule (lumaPlane (i .layout) .rows) y) (bottomDistance (lumaPlane (i .layout) .rows) y)
 
+  -- (1464), (1465): the sample at a neighbour's position
   abbrev pub lumaRead : ℕ × ℕ → ℕ
   lumaRead p = read (i .layout) (lumaPlane (i .layout)) x y (i .luma) (p .0) (p .1)
 
@@ -79,5 +86,6 @@ module _ (i : Input) (x y : ℕ) where
       (map lumaRead (lumaPlus x y r))
       (map lumaRead (lumaMinus x y r)))
 
+  -- (1469): the filtered sample, with the class of its 4 by 4 block
   unfoldable pub lumaSample : ℕ
   lumaSample = lumaWith (blockClass (i .layout) (i .luma) (x / 4 * 4) (y / 4 * 4)) lumaRowsAt

@@ -10,17 +10,19 @@ use Rattle.alf_spec.specs.Input.{Layout}
 use Rattle.alf_spec.specs.Geometry.{Side, before, after, Axis, Plane, samples, lumaPosition, indexOf, ctbStart, ctbAt}
 use Rattle.alf_spec.specs.Boundary.{columnDisabled, rowDisabled, cornerDisabled, clipPosition}
 
+-- 01: no edge
 abbrev pub isNone : Option ℕ → Bool
 isNone none = true
 isNone (some e) = false
 
 -- along one axis, in the plane's own samples
 module _ (a : Axis) where
-  -- (1521) to (1524): a clip position in the plane's own samples; where there is none, the plane's end
+  -- (1521) to (1524): where reads begin, the clip position before in the plane's own samples, or 0
   abbrev pub lowest : Option ℕ → ℕ
   lowest none = 0
   lowest (some e) = e / a .ratio
 
+  -- where reads end: the clip position after, or the plane's end
   abbrev pub limit : Option ℕ → ℕ
   limit none = samples a
   limit (some e) = e / a .ratio
@@ -42,17 +44,21 @@ module _ (a : Axis) where
 
 -- the sample that is filtered: a plane's, at column x and row y
 module _ (l : Layout) (g : Plane) (x y : ℕ) where
+  -- clipLeftPos and clipRightPos of the sample
   unfoldable pub columnClip : Side → Option ℕ
   columnClip = clipPosition (g .columns) (lumaPosition (g .columns) x) (columnDisabled l (ctbAt g x y))
 
+  -- clipTopPos and clipBottomPos of the sample
   unfoldable pub rowClip : Side → Option ℕ
   rowClip = clipPosition (g .rows) (lumaPosition (g .rows) y) (rowDisabled l (ctbAt g x y))
 
   -- its neighbour at column p and row q; a position is never negative, so x − 3 is 0 where x is below 3
   module _ (p q : ℕ) where
+    -- its column, clamped
     abbrev pub clampedColumn : ℕ
     clampedColumn = clamped (g .columns) columnClip p
 
+    -- its row, clamped
     abbrev pub clampedRow : ℕ
     clampedRow = clamped (g .rows) rowClip q
 
@@ -70,8 +76,10 @@ module _ (l : Layout) (g : Plane) (x y : ℕ) where
         (cond (pastCorner after) (ctbEnd (g .columns) after x)
         clampedColumn)
 
+    -- 01: same row
     unfoldable pub paddedRow : ℕ
     paddedRow = clampedRow
 
+  -- the sample that stands for the neighbour
   unfoldable pub read : List ℕ → ℕ → ℕ → ℕ
   read plane p q = getD plane (indexOf g (paddedColumn p q) (paddedRow p q)) 0

@@ -13,10 +13,11 @@ module _ (i : Input) (c : Ctb) where
   unfoldable pub ctbParam : ℕ → ℕ
   ctbParam n = getD (i .ctbParams) (8 * address (i .layout) c + n) 0
 
-  -- alf_ctb_flag
+  -- alf_ctb_flag of luma
   abbrev pub lumaFlag : ℕ
   lumaFlag = ctbParam 0
 
+  -- alf_ctb_flag of Cb and Cr
   abbrev pub chromaFlag : ℕ → ℕ
   chromaFlag component = ctbParam (1 + component)
 
@@ -36,6 +37,7 @@ module _ (i : Input) (c : Ctb) where
   unfoldable pub sliceParam : ℕ → ℕ
   sliceParam n = getD (i .sliceParams) (11 * sliceOf (i .layout) c + n) 0
 
+  -- 01: count 0 to 7 of luma places
   abbrev pub lumaApsCount : ℕ
   lumaApsCount = sliceParam 0
 
@@ -54,20 +56,23 @@ module _ (i : Input) (c : Ctb) where
 -- 752 numbers an APS: 25 luma filters of 12 coefficients and 12 clips, 8 chroma alternatives of 6 and 6, 4 cross-component filters of 7 for
 -- Cb, and 4 for Cr
 module _ (i : Input) (aps : ℕ) where
+  -- number n of an APS
   unfoldable pub bankNumber : ℕ → ℤ
   bankNumber n = getD (i .bank) (752 * aps + n) (pos 0)
 
-  -- AlfCoeffL, AlfClipL
+  -- AlfCoeffL[ aps ][ filter ][ j ]
   abbrev pub lumaCoeff : ℕ → ℕ → ℤ
   lumaCoeff filter j = bankNumber (24 * filter + j)
 
+  -- AlfClipL[ aps ][ filter ][ j ]
   abbrev pub lumaClip : ℕ → ℕ → ℤ
   lumaClip filter j = bankNumber (24 * filter + 12 + j)
 
-  -- AlfCoeffC, AlfClipC
+  -- AlfCoeffC[ aps ][ alternative ][ j ]
   abbrev pub chromaCoeff : ℕ → ℕ → ℤ
   chromaCoeff alternative j = bankNumber (600 + 12 * alternative + j)
 
+  -- AlfClipC[ aps ][ alternative ][ j ]
   abbrev pub chromaClip : ℕ → ℕ → ℤ
   chromaClip alternative j = bankNumber (600 + 12 * alternative + 6 + j)
 

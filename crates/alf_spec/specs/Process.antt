@@ -14,25 +14,29 @@ use Rattle.alf_spec.specs.Luma.{lumaSample}
 use Rattle.alf_spec.specs.Chroma.{chromaSample}
 use Rattle.alf_spec.specs.CrossComponent.{crossSample}
 
--- the class map (01: class plane), row by row: class + 32 × transpose of each 4 by 4 block
+-- 01: class + 32 × transpose
 abbrev pub classNumber : Class → ℕ
 classNumber c = c .filter + 32 * c .transpose
 
+-- 01: one byte per 4 by 4 block, row by row: entry k
 unfoldable pub classAt : Layout → List ℕ → ℕ → ℕ
 classAt l plane k =
     classNumber
     (blockClass l plane (lumaPosition (classPlane l .columns) (columnOf (classPlane l) k)) (lumaPosition (classPlane l .rows) (rowOf (classPlane l) k)))
 
+-- 01: for all CTBs
 unfoldable pub classMap : Layout → List ℕ → List ℕ
 classMap l plane = tabulate (planeLength (classPlane l)) (classAt l plane)
 
--- a CTB's flag or index is on
+-- a CTB's flag or index is on: alf_ctb_flag[ 0 ] is 1
 unfoldable pub lumaOn : Input → Ctb → Bool
 lumaOn i c = eqb (lumaFlag i c) 1
 
+-- alf_ctb_flag[ 1 ] or [ 2 ] is 1
 unfoldable pub chromaOn : Input → ℕ → Ctb → Bool
 chromaOn i component c = eqb (chromaFlag i c component) 1
 
+-- alf_ctb_cc_cb_idc or alf_ctb_cc_cr_idc is not 0
 unfoldable pub crossOn : Input → ℕ → Ctb → Bool
 crossOn i component c = not (eqb (crossIndex i c component) 0)
 
