@@ -1,5 +1,8 @@
 -- Claims about the definitions alone, and laws of the words in `specs/Lists`.
+pub mod Accepted
+pub mod Axes
 pub mod Examples
+pub mod IsolatedRegions
 pub mod Rejections
 pub mod SmallPictures
 pub mod TapOrder

@@ -13,6 +13,11 @@ pub both : (a b : Bool) → (a && b) ≡ true → (a ≡ true) × (b ≡ true)
 both true b e = (refl, e)
 both false b e = absurd (false≢true e)
 
+-- a conjunction that fails, though its first part holds
+pub and-no : (a b : Bool) → (a && b) ≡ false → a ≡ true → b ≡ false
+and-no true b e h = e
+and-no false b e h = cc
+
 pub all-at : (n : ℕ) (test : ℕ → Bool) → allBelow n test ≡ true → (k : ℕ) → k < n → test k ≡ true
 unfolding allBelow
 all-at zero test e k h = absurd (not-suc-le-zero h)

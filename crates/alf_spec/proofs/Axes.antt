@@ -1,0 +1,105 @@
+-- One axis of an accepted picture: its size, CTBs and virtual boundaries are multiples of 8; and the CTB of a position on it. Assumes nothing.
+use mathlib.Core.Path.{_≡_, ap, _∙_}
+use mathlib.Core.Logic.{⊎-elim, by-cases}
+use mathlib.Core.Bool.{Bool, true}
+use mathlib.Core.List.{List, [], _∷_, List·Memᴰ, List·Memᴰ·not-nil, List·Memᴰ·cases-cons}
+use Prim.Native.Nat.{ℕ, suc, _+_, _-_, _*_, _/_, _%_, _^_, _≤_, _<_}
+use native.Mathlib.Nat.{div-mul-le-self, lt-div-mul-add, div-eq-of-lt-le, div-add-mod'}
+use native.Mathlib.Decide.{decLe, ℕ-discrete}
+use native.Mathlib.Omega.{arith}
+use lib.Dec.{eqb, leb}
+use lib.ListN.{length}
+use borrow.Author.Tests.{eqb-true, leb-true}
+use Rattle.alf_spec.specs.declared.Picture.{Picture}
+use Rattle.alf_spec.specs.Lists.{within, allBelow, everyFrom, every}
+use Rattle.alf_spec.specs.Input.{Layout}
+use Rattle.alf_spec.specs.Geometry.{Axis, ctbSize, planeOf, ctbStart, inCtb}
+use Rattle.alf_spec.specs.Faults.{sizeValid, pictureSizeValid, ctbSizeValid, virtualPositionValid, apartAt, virtualListValid, virtualBoundariesValid}
+use Rattle.alf_spec.proofs.Tests.{both}
+use Rattle.alf_spec.proofs.Accepted.{Accepted}
+
+-- a ≤ b, if it follows from its failure
+pub by-gt : {a b : ℕ} → (b < a → a ≤ b) → a ≤ b
+by-gt {a} {b} f = by-cases (decLe a b) (λ h. h) (λ h. f (omega arith))
+
+-- what the proofs need of an axis
+pub record Regular (a : Axis) : Type 0 where
+  pub big : 8 ≤ a .ctb
+  pub ctb8 : a .ctb % 8 ≡ 0
+  pub size8 : a .size % 8 ≡ 0
+  pub virtual8 : (v : ℕ) → List·Memᴰ v (a .virtualBoundaries) → v % 8 ≡ 0
+
+-- ---- the CTB of a position
+
+module _ (a : Axis) (ok : Regular a) where
+  pub lower : (x : ℕ) → ctbStart a x ≤ x
+  lower x = div-mul-le-self x (a .ctb)
+
+  pub upper : (x : ℕ) → x < ctbStart a x + a .ctb
+  upper x = lt-div-mul-add (omega (arith, ok .big))
+
+  pub ctb-of : (q u : ℕ) → q * a .ctb ≤ u → u < q * a .ctb + a .ctb → u / a .ctb ≡ q
+  ctb-of q u h l = div-eq-of-lt-le (a .ctb) h (omega arith)
+
+  -- a position is where its CTB begins and its place in the CTB
+  pub parts : (x : ℕ) → ctbStart a x + inCtb a x ≡ x
+  parts x = div-add-mod' x (a .ctb)
+
+-- ---- acceptance
+
+every-mem : (test : ℕ → Bool) (k : ℕ) (xs : List ℕ) → everyFrom k (λ _ x. test x) xs ≡ true → (v : ℕ) → List·Memᴰ v xs → test v ≡ true
+unfolding everyFrom
+every-mem test k [] q v m = absurd (List·Memᴰ·not-nil m)
+every-mem test k (x ∷ xs) q v m =
+    let h = both (test x) (everyFrom (suc k) (λ _ x. test x) xs) q in
+    ⊎-elim (λ (e : v ≡ x). ap test e ∙ h .0) (λ n. every-mem test (suc k) xs (h .1) v n) (List·Memᴰ·cases-cons m)
+
+size-of : (n : ℕ) → sizeValid n ≡ true → n % 8 ≡ 0
+size-of n q = eqb-true (n % 8) 0 (both (eqb (n % 8) 0) (within 8 4096 n) q .0)
+
+virtual-of : (size s : ℕ) (list : List ℕ) → virtualListValid size s list ≡ true → (v : ℕ) → List·Memᴰ v list → v % 8 ≡ 0
+unfolding virtualListValid
+virtual-of size s list q v m =
+    let valid = both (every (virtualPositionValid size) list) (allBelow (length list - 1) (apartAt s list)) (both (leb (length list) 3) _ q .1) .0 in
+    eqb-true (v % 8) 0 (both (eqb (v % 8) 0) _ (every-mem (virtualPositionValid size) 0 list valid v m) .0)
+
+-- CTBs of 32, 64 or 128
+ctb-sizes : (p : Picture) → ctbSizeValid p ≡ true → (8 ≤ ctbSize p) × (ctbSize p % 8 ≡ 0)
+unfolding ctbSizeValid ctbSize
+ctb-sizes p q =
+    let h = both (leb 5 (p .«ctb_log2»)) (leb (p .«ctb_log2») 7) q in
+    power (p .«ctb_log2») (leb-true 5 (p .«ctb_log2») (h .0)) (leb-true (p .«ctb_log2») 7 (h .1))
+  where
+    power : (n : ℕ) → 5 ≤ n → n ≤ 7 → (8 ≤ 2 ^ n) × (2 ^ n % 8 ≡ 0)
+    power n lo hi =
+        by-cases (ℕ-discrete n 5) (λ (e : n ≡ 5). rw e (omega arith))
+        (λ n5. by-cases (ℕ-discrete n 6) (λ (e : n ≡ 6). rw e (omega arith))
+        (λ n6. let e : n ≡ 7 = omega arith in rw e (omega arith)))
+
+module _ (l : Layout) (ok : Accepted l) (columnRatio rowRatio : ℕ) where
+  sizes : (sizeValid (l .picture .width) ≡ true) × (sizeValid (l .picture .height) ≡ true)
+  unfolding pictureSizeValid
+  sizes = both (sizeValid (l .picture .width)) (sizeValid (l .picture .height)) (ok .sizes)
+
+  virtuals : (virtualListValid (l .picture .width) (ctbSize (l .picture)) (l .virtualColumns) ≡ true)
+      × (virtualListValid (l .picture .height) (ctbSize (l .picture)) (l .virtualRows) ≡ true)
+  unfolding virtualBoundariesValid
+  virtuals = both (virtualListValid (l .picture .width) (ctbSize (l .picture)) (l .virtualColumns)) _ (ok .virtualBoundaries)
+
+  pub regular-columns : Regular (planeOf l columnRatio rowRatio .columns)
+  unfolding planeOf
+  regular-columns = record {
+    big = ctb-sizes (l .picture) (ok .ctbSize) .0;
+    ctb8 = ctb-sizes (l .picture) (ok .ctbSize) .1;
+    size8 = size-of (l .picture .width) (sizes .0);
+    virtual8 = virtual-of (l .picture .width) (ctbSize (l .picture)) (l .virtualColumns) (virtuals .0);
+  }
+
+  pub regular-rows : Regular (planeOf l columnRatio rowRatio .rows)
+  unfolding planeOf
+  regular-rows = record {
+    big = ctb-sizes (l .picture) (ok .ctbSize) .0;
+    ctb8 = ctb-sizes (l .picture) (ok .ctbSize) .1;
+    size8 = size-of (l .picture .height) (sizes .1);
+    virtual8 = virtual-of (l .picture .height) (ctbSize (l .picture)) (l .virtualRows) (virtuals .1);
+  }

@@ -1,0 +1,149 @@
+-- A clip position is the first multiple of 4 on its side; where there is none, no virtual boundary is near, and the CTB's side, if it is near,
+-- is not disabled. Assumes nothing.
+use mathlib.Core.Path.{_≡_, refl, sym, ap, _∙_}
+use mathlib.Core.Logic.{_⊎_, inl, inr}
+use mathlib.Core.Bool.{Bool, true, false, _&&_, true≢false}
+use mathlib.Core.List.{List, [], _∷_, List·Memᴰ, List·Memᴰ·head, List·Memᴰ·tail, List·Memᴰ·not-nil, List·Memᴰ·cases-cons}
+use mathlib.Core.Option.{Option, some, none}
+use Prim.Native.Nat.{ℕ, _+_, _-_, _/_, _%_, _≤_, _<_}
+use native.Mathlib.Nat.{mod-eq-zero-of-dvd, dvd-of-mod-eq-zero, dvd-mul-left-of-dvd}
+use native.Mathlib.Omega.{arith}
+use lib.Dec.{leb, ltb}
+use borrow.Author.Tests.{ltb-true, leb-true, lt-ltb, le-leb}
+use Rattle.alf_spec.specs.Geometry.{Side, before, after, Axis, ctbStart, inCtb}
+use Rattle.alf_spec.specs.Boundary.{only, _orElse_, find, near, linePosition, lineClip, virtualClip, sideClip, clipPosition}
+use Rattle.alf_spec.proofs.Tests.{both, and-no}
+use Rattle.alf_spec.proofs.Axes.{Regular, lower, upper, parts}
+
+-- ---- options
+
+-- what an option holds, if anything, is a G; if it holds nothing, N
+pub data Ends (G : ℕ → Type 0) (N : Type 0) : Option ℕ → Type 0 where
+  stops : {e : ℕ} → G e → Ends G N (some e)
+  runs : N → Ends G N none
+
+module _ {G : ℕ → Type 0} where
+  map-ends : {N N′ : Type 0} {o : Option ℕ} → (N → N′) → Ends G N o → Ends G N′ o
+  map-ends f (stops g) = stops g
+  map-ends f (runs n) = runs (f n)
+
+  or-ends : {N N′ : Type 0} {o o′ : Option ℕ} → Ends G N o → Ends G N′ o′ → Ends G (N × N′) (o orElse o′)
+  or-ends (stops g) k = stops g
+  or-ends (runs n) (stops g) = stops g
+  or-ends (runs n) (runs n′) = runs (n, n′)
+
+  only-ends : {N : Type 0} (t : Bool) (e : ℕ) → (t ≡ true → G e) → (t ≡ false → N) → Ends G N (only t e)
+  only-ends true e g n = stops (g refl)
+  only-ends false e g n = runs (n refl)
+
+  find-ends : (f : ℕ → Bool) (vs : List ℕ) → ((v : ℕ) → List·Memᴰ v vs → f v ≡ true → G v)
+      → Ends G ((v : ℕ) → List·Memᴰ v vs → f v ≡ false) (find f vs)
+  unfolding find
+  find-ends f [] g = runs (λ v m. absurd (List·Memᴰ·not-nil m))
+  find-ends f (v ∷ vs) g =
+      map-ends (λ n u m. pick n u (List·Memᴰ·cases-cons m))
+      (or-ends (only-ends (f v) v (g v (List·Memᴰ·head refl)) (λ q. q)) (find-ends f vs (λ u m. g u (List·Memᴰ·tail m))))
+    where
+      pick : (f v ≡ false) × ((u : ℕ) → List·Memᴰ u vs → f u ≡ false) → (u : ℕ) → (u ≡ v) ⊎ List·Memᴰ u vs → f u ≡ false
+      pick n u (inl q) = ap f q ∙ n .0
+      pick n u (inr m) = n .1 u m
+
+-- ---- near boundaries
+
+-- what the test `near` tests
+abbrev pub Near : Side → ℕ → ℕ → Type 0
+Near before x b = (b ≤ x) × (x < b + 3)
+Near after x b = (x < b) × (b ≤ x + 4)
+
+near-yes : (d : Side) (x b : ℕ) → near d x b ≡ true → Near d x b
+near-yes before x b q =
+    let h = both (leb b x) (leb (x - b) 2) q in
+    let l = leb-true b x (h .0) in
+    let k = leb-true (x - b) 2 (h .1) in
+    omega arith
+near-yes after x b q =
+    let h = both (ltb x b) (leb (b - x) 4) q in
+    let l = ltb-true x b (h .0) in
+    let k = leb-true (b - x) 4 (h .1) in
+    omega arith
+
+yes-near : (d : Side) (x b : ℕ) → Near d x b → near d x b ≡ true
+yes-near before x b n = simp (le-leb b x (n .0), le-leb (x - b) 2 (omega arith))
+yes-near after x b n = simp (lt-ltb x b (n .0), le-leb (b - x) 4 (omega arith))
+
+-- e is the first multiple of 4 on that side of x
+abbrev pub First : Side → ℕ → ℕ → Type 0
+First before x e = (e % 4 ≡ 0) × (e ≤ x) × (x < e + 4)
+First after x e = (e % 4 ≡ 0) × (x < e) × (e ≤ x + 4)
+
+near-first : (d : Side) (x b : ℕ) → b % 4 ≡ 0 → Near d x b → First d x b
+near-first before x b q n = omega arith
+near-first after x b q n = omega arith
+
+-- ---- the rules
+
+-- the boundary of x's CTB on that side
+abbrev pub bound : Axis → Side → ℕ → ℕ
+bound a before x = ctbStart a x
+bound a after x = ctbStart a x + a .ctb
+
+-- what the side's own test, y < 3 or S − y < 5, tests
+abbrev sideTest : Axis → Side → ℕ → Bool
+sideTest a before x = ltb (inCtb a x) 3
+sideTest a after x = ltb (a .ctb - inCtb a x) 5
+
+module _ (a : Axis) (ok : Regular a) (x : ℕ) where
+  start4 : ctbStart a x % 4 ≡ 0
+  start4 =
+      let c : a .ctb % 4 ≡ 0 = omega (arith, ok .ctb8) in
+      mod-eq-zero-of-dvd 4 (dvd-mul-left-of-dvd _ (dvd-of-mod-eq-zero 4 c) (x / a .ctb))
+
+  pub bound4 : (d : Side) → bound a d x % 4 ≡ 0
+  bound4 before = start4
+  bound4 after = omega (arith, start4, ok .ctb8)
+
+  side-near : (d : Side) → sideTest a d x ≡ true → Near d x (bound a d x)
+  side-near before q = let h = ltb-true (inCtb a x) 3 q in omega (arith, lower a ok x, parts a ok x)
+  side-near after q = let h = ltb-true (a .ctb - inCtb a x) 5 q in omega (arith, upper a ok x, parts a ok x)
+
+  near-side : (d : Side) → Near d x (bound a d x) → sideTest a d x ≡ true
+  near-side before n = lt-ltb (inCtb a x) 3 (omega (arith, parts a ok x))
+  near-side after n = lt-ltb (a .ctb - inCtb a x) 5 (omega (arith, parts a ok x))
+
+  first-line : (d : Side) → Ends (First d x) Unit (lineClip a x d)
+  unfolding lineClip
+  first-line before = only-ends _ (linePosition a x) (λ q.
+      let l = leb-true (a .ctb - 4) (inCtb a x) (both (a .hasLine) (leb (a .ctb - 4) (inCtb a x)) q .1) in
+      omega (arith, start4, ok .ctb8, ok .big, upper a ok x, parts a ok x)) (λ _. tt)
+  first-line after = only-ends _ (linePosition a x) (λ q.
+      let h = both (ltb x (linePosition a x)) (leb (linePosition a x - x) 4) (both (a .hasLine) _ q .1) in
+      let l = ltb-true x (linePosition a x) (h .0) in
+      let k = leb-true (linePosition a x - x) 4 (h .1) in
+      omega (arith, start4, ok .ctb8, ok .big)) (λ _. tt)
+
+  -- no virtual boundary is near on that side, and if the CTB's side is, it is not disabled
+  abbrev pub Free : (Side → Bool) → Side → Type 0
+  Free disabled d = ((b : ℕ) → List·Memᴰ b (a .virtualBoundaries) → ¬ Near d x b) × (Near d x (bound a d x) → disabled d ≡ false)
+
+  first-virtual : (d : Side) → Ends (First d x) ((b : ℕ) → List·Memᴰ b (a .virtualBoundaries) → ¬ Near d x b) (virtualClip a x d)
+  unfolding virtualClip
+  first-virtual d =
+      map-ends (λ far b m n. true≢false (sym (yes-near d x b n) ∙ far b m))
+      (find-ends (near d x) (a .virtualBoundaries) (λ v m q. let v8 = ok .virtual8 v m in near-first d x v (omega arith) (near-yes d x v q)))
+
+  module _ (disabled : Side → Bool) where
+    tested-side : (d : Side) → Ends (First d x) (Near d x (bound a d x) → disabled d ≡ false) (only (sideTest a d x && disabled d) (bound a d x))
+    tested-side d =
+        only-ends (sideTest a d x && disabled d) (bound a d x)
+        (λ q. near-first d x (bound a d x) (bound4 d) (side-near d (both (sideTest a d x) (disabled d) q .0)))
+        (λ q n. and-no (sideTest a d x) (disabled d) q (near-side d n))
+
+    first-side : (d : Side) → Ends (First d x) (Near d x (bound a d x) → disabled d ≡ false) (sideClip a x disabled d)
+    unfolding sideClip
+    first-side before = tested-side before
+    first-side after = tested-side after
+
+    pub clip-ends : (d : Side) → Ends (First d x) (Free disabled d) (clipPosition a x disabled d)
+    unfolding clipPosition
+    clip-ends before = map-ends (λ n. n .1) (or-ends (first-line before) (or-ends (first-virtual before) (first-side before)))
+    clip-ends after = map-ends (λ n. (n .0, n .1 .1)) (or-ends (first-virtual after) (or-ends (first-line after) (first-side after)))

@@ -1,0 +1,129 @@
+-- Two axes: an isolated region holds what two ways lead to, along cells and over at most one side or corner of a CTB. Assumes nothing.
+use mathlib.Core.Path.{_≡_, refl, sym, _∙_, subst₂}
+use mathlib.Core.Logic.{_≢_}
+use mathlib.Core.Bool.{Bool, true, false, not, _&&_}
+use mathlib.Core.List.{List, List·Memᴰ}
+use Prim.Native.Nat.{ℕ, suc, _/_, _<_}
+use native.Mathlib.Nat.{mul-one}
+use native.Mathlib.Omega.{arith}
+use Rattle.alf_spec.specs.declared.Ctb.{Ctb}
+use Rattle.alf_spec.specs.Input.{Layout}
+use Rattle.alf_spec.specs.Geometry.{Side, before, after, sameSide, next, gap, hasNext, Axis, ctbSize, planeOf, ctbRows}
+use Rattle.alf_spec.specs.Boundary.{sliceDisables, columnDisabled, rowDisabled, cornerDisabled}
+use Rattle.alf_spec.specs.Isolation.{openStep, columnStep, rowStep, diagonalStep, isolated}
+use Rattle.alf_spec.proofs.Tests.{and-no}
+use Rattle.alf_spec.proofs.Accepted.{Accepted}
+use Rattle.alf_spec.proofs.Axes.{Regular, regular-columns, regular-rows}
+use Rattle.alf_spec.proofs.IsolatedRegions.Cells.{Cell, Closed, walk}
+use Rattle.alf_spec.proofs.IsolatedRegions.Steps.{open-step, next-ctb}
+use Rattle.alf_spec.proofs.IsolatedRegions.Held.{Held, across, down, diagonal}
+use Rattle.alf_spec.proofs.IsolatedRegions.Ways.{Way, here, over}
+
+-- a step within a cell is open, both ways
+inner : (a : Axis) (disabled disabled′ : Side → Bool) (b : ℕ) → suc b < a .size → ¬ List·Memᴰ (suc b) (a .virtualBoundaries)
+    → b / a .ctb ≡ suc b / a .ctb → (openStep a disabled after b ≡ true) × (openStep a disabled′ before (suc b) ≡ true)
+inner a disabled disabled′ b hi free q = (
+  open-step a disabled after b (omega arith) hi free (λ ne. absurd (ne q)),
+  open-step a disabled′ before (suc b) (omega arith) hi free (λ ne. absurd (ne (sym q))),
+)
+
+-- the CTB of a luma sample
+abbrev pub ctbHolding : Layout → ℕ → ℕ → Ctb
+ctbHolding l x y = record { column = x / ctbSize (l .picture); row = y / ctbSize (l .picture) }
+
+module _ (l : Layout) (columnRatio rowRatio x y : ℕ) where
+  -- steps in terms of that CTB, for the axes of a plane of any ratio
+  column-step : (d : Side) → openStep (planeOf l columnRatio rowRatio .columns) (columnDisabled l (ctbHolding l x y)) d x ≡ true
+      → columnStep l x y d ≡ true
+  unfolding columnStep openStep planeOf
+  column-step d q = rw (mul-one x, mul-one y) q
+
+  row-step : (e : Side) → openStep (planeOf l columnRatio rowRatio .rows) (rowDisabled l (ctbHolding l x y)) e y ≡ true → rowStep l x y e ≡ true
+  unfolding rowStep openStep planeOf
+  row-step e q = rw (mul-one x, mul-one y) q
+
+-- ---- corners
+
+not-corner : (d e : Side) (s : Bool) → (d ≡ e → s ≡ false) → not (sameSide d e && s) ≡ true
+not-corner before before s f = simp (f refl)
+not-corner before after s f = refl
+not-corner after before s f = refl
+not-corner after after s f = simp (f refl)
+
+module _ (l : Layout) (ok : Accepted l) (columnRatio rowRatio : ℕ) where
+  abbrev pub columns : Axis
+  columns = planeOf l columnRatio rowRatio .columns
+
+  abbrev pub rows : Axis
+  rows = planeOf l columnRatio rowRatio .rows
+
+  okX : Regular columns
+  okX = regular-columns l ok columnRatio rowRatio
+
+  okY : Regular rows
+  okY = regular-rows l ok columnRatio rowRatio
+
+  -- a diagonal step over both sides of a CTB leads to the CTB that the corner flag speaks of
+  same-slice : (d e : Side) (m n : ℕ) → d ≡ e
+      → 0 < gap d m → gap d m < columns .size → m / columns .ctb ≢ next d m / columns .ctb
+      → 0 < gap e n → gap e n < rows .size → n / rows .ctb ≢ next e n / rows .ctb
+      → cornerDisabled l (ctbHolding l m n) d ≡ false → sliceDisables l (ctbHolding l m n) (ctbHolding l (next d m) (next e n)) ≡ false
+  unfolding cornerDisabled planeOf
+  same-slice d e m n q lo hi ne lo′ hi′ ne′ f =
+      let x = next-ctb columns okX d m lo hi ne in
+      let y = next-ctb rows okY e n lo′ hi′ ne′ in
+      let h : hasNext (ctbRows l) d (n / rows .ctb) ≡ true = rw q (y .1) in
+      rw (x .0, y .0, ← q) (and-no _ _ (and-no _ _ f (x .1)) h)
+
+  diagonal-step : (d e : Side) (m n : ℕ) → columnStep l m n d ≡ true → rowStep l m n e ≡ true
+      → (d ≡ e → sliceDisables l (ctbHolding l m n) (ctbHolding l (next d m) (next e n)) ≡ false) → diagonalStep l m n d e ≡ true
+  unfolding diagonalStep planeOf
+  diagonal-step d e m n q q′ f = simp (q, q′, mul-one m, mul-one n, mul-one (next d m), mul-one (next e n), not-corner d e _ f)
+
+  module _ (region : List ℕ) (iso : isolated l region ≡ true) where
+    closedX : (y : ℕ) → Closed columns (λ x. Held l region x y)
+    unfolding Closed
+    closedX y b hi free q =
+        let o = inner columns (columnDisabled l (ctbHolding l b y)) (columnDisabled l (ctbHolding l (suc b) y)) b hi free q in (
+          λ r. across l region iso b y r after (column-step l columnRatio rowRatio b y after (o .0)),
+          λ r. across l region iso (suc b) y r before (column-step l columnRatio rowRatio (suc b) y before (o .1)),
+        )
+
+    closedY : (x : ℕ) → Closed rows (λ y. Held l region x y)
+    unfolding Closed
+    closedY x b hi free q =
+        let o = inner rows (rowDisabled l (ctbHolding l x b)) (rowDisabled l (ctbHolding l x (suc b))) b hi free q in (
+          λ r. down l region iso x b r after (row-step l columnRatio rowRatio x b after (o .0)),
+          λ r. down l region iso x (suc b) r before (row-step l columnRatio rowRatio x (suc b) before (o .1)),
+        )
+
+    walkX : {x u y : ℕ} → Cell columns x u → Held l region x y → Held l region u y
+    walkX {x} {u} {y} = walk columns okX (λ x. Held l region x y) (closedX y)
+
+    walkY : {x y v : ℕ} → Cell rows y v → Held l region x y → Held l region x v
+    walkY {x} {y} {v} = walk rows okY (λ y. Held l region x y) (closedY x)
+
+    module _ (d e : Side) (x y u v : ℕ) (r : Held l region x y) where
+      -- what is said of the CTB holds at each of its samples
+      carry : {m n : ℕ} → Cell columns x m → Cell rows y n → (F : Ctb → Type 0) → F (ctbHolding l x y) → F (ctbHolding l m n)
+      unfolding planeOf
+      carry c k F = subst₂ (λ (i j : ℕ). F (record { column = i; row = j })) (c .ctb) (k .ctb)
+
+      -- the one claim about two axes: cells, a side, or a corner
+      pub arrive : Way columns (columnDisabled l (ctbHolding l x y)) d x u → Way rows (rowDisabled l (ctbHolding l x y)) e y v
+          → (x / columns .ctb ≢ u / columns .ctb → y / rows .ctb ≢ v / rows .ctb → d ≡ e → cornerDisabled l (ctbHolding l x y) d ≡ false)
+          → Held l region u v
+      arrive (here c) (here k) f = walkY k (walkX c r)
+      arrive (over m _ c _ _ o c′ _) (here k) f =
+          walkX c′ (across l region iso m v (walkY k (walkX c r)) d
+          (column-step l columnRatio rowRatio m v d (carry c k (λ ctb. openStep columns (columnDisabled l ctb) d m ≡ true) o)))
+      arrive (here c) (over n _ k _ _ o k′ _) f =
+          walkY k′ (down l region iso u n (walkY k (walkX c r)) e
+          (row-step l columnRatio rowRatio u n e (carry c k (λ ctb. openStep rows (rowDisabled l ctb) e n ≡ true) o)))
+      arrive (over m _ c lo hi o c′ ne) (over n _ k lo′ hi′ o′ k′ ne′) f =
+          walkY k′ (walkX c′ (diagonal l region iso m n (walkY k (walkX c r)) d e (diagonal-step d e m n
+          (column-step l columnRatio rowRatio m n d (carry c k (λ ctb. openStep columns (columnDisabled l ctb) d m ≡ true) o))
+          (row-step l columnRatio rowRatio m n e (carry c k (λ ctb. openStep rows (rowDisabled l ctb) e n ≡ true) o′))
+          (λ q. same-slice d e m n q
+          lo hi (λ w. ne (c .ctb ∙ w ∙ c′ .ctb)) lo′ hi′ (λ w. ne′ (k .ctb ∙ w ∙ k′ .ctb))
+          (carry c k (λ ctb. cornerDisabled l ctb d ≡ false) (f ne ne′ q))))))

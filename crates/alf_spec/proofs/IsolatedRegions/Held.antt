@@ -1,0 +1,90 @@
+-- What an isolated region holds: with a sample, every sample that an open step leads to. Assumes nothing.
+use mathlib.Core.Path.{_≡_}
+use mathlib.Core.Bool.{Bool, true, false}
+use mathlib.Core.List.{List}
+use Prim.Native.Nat.{ℕ, suc, pred, _<_}
+use native.Mathlib.Omega.{arith}
+use lib.Dec.{ltb}
+use borrow.Author.Tests.{ltb-true}
+use Rattle.alf_spec.specs.Lists.{implies}
+use Rattle.alf_spec.specs.Input.{Layout}
+use Rattle.alf_spec.specs.Geometry.{Side, before, after, next, hasNext, Axis, planeOf, lumaPlane}
+use Rattle.alf_spec.specs.Isolation.{openStep, columnStep, rowStep, diagonalStep, inside, bothSides, staysInside, isolated}
+use Rattle.alf_spec.proofs.Tests.{both, all-at}
+
+-- the luma sample at column x and row y lies in the picture and in the region
+pub record Held (l : Layout) (region : List ℕ) (x y : ℕ) : Type 0 where
+  pub column : x < l .picture .width
+  pub row : y < l .picture .height
+  pub position : inside l region x y ≡ true
+
+implied : (a b : Bool) → implies a b ≡ true → a ≡ true → b ≡ true
+implied true b q h = q
+implied false b q h = cc
+
+on-side : (test : Side → Bool) → bothSides test ≡ true → (d : Side) → test d ≡ true
+on-side test q before = both (test before) (test after) q .0
+on-side test q after = both (test before) (test after) q .1
+
+next-below : (n : ℕ) (d : Side) (x : ℕ) → hasNext n d x ≡ true → next d x < n
+next-below n before x q =
+    let h = ltb-true x n (both (ltb 0 x) (ltb x n) q .1) in
+    let k : pred x < n = omega arith in
+    k
+next-below n after x q = ltb-true (suc x) n (both (ltb 0 (suc x)) (ltb (suc x) n) q .1)
+
+open-below : (a : Axis) (disabled : Side → Bool) (d : Side) (x : ℕ) → openStep a disabled d x ≡ true → next d x < a .size
+unfolding openStep
+open-below a disabled d x q = next-below (a .size) d x (both (hasNext (a .size) d x) _ q .0)
+
+module _ (l : Layout) (x y : ℕ) where
+  column-below : (d : Side) → columnStep l x y d ≡ true → next d x < l .picture .width
+  unfolding columnStep planeOf
+  column-below d q = open-below (lumaPlane l .columns) _ d x q
+
+  row-below : (e : Side) → rowStep l x y e ≡ true → next e y < l .picture .height
+  unfolding rowStep planeOf
+  row-below e q = open-below (lumaPlane l .rows) _ e y q
+
+module _ (l : Layout) (region : List ℕ) (iso : isolated l region ≡ true) (x y : ℕ) (h : Held l region x y) where
+  -- the three parts of `staysInside`
+  abbrev columnTest : Side → Bool
+  columnTest d = implies (columnStep l x y d) (inside l region (next d x) y)
+
+  abbrev rowTest : Side → Bool
+  rowTest e = implies (rowStep l x y e) (inside l region x (next e y))
+
+  abbrev diagonalTest : Side → Side → Bool
+  diagonalTest d e = implies (diagonalStep l x y d e) (inside l region (next d x) (next e y))
+
+  stays : (bothSides columnTest ≡ true) × (bothSides rowTest ≡ true) × (bothSides (λ d. bothSides (diagonalTest d)) ≡ true)
+  unfolding isolated staysInside
+  stays =
+      let s = implied (inside l region x y) (staysInside l region x y) (all-at _ _ (all-at _ _ iso y (h .row)) x (h .column)) (h .position) in
+      let t = both (bothSides columnTest) _ s in
+      let u = both (bothSides rowTest) _ (t .1) in
+      (t .0, u .0, u .1)
+
+  pub across : (d : Side) → columnStep l x y d ≡ true → Held l region (next d x) y
+  across d q = record {
+    column = column-below l x y d q;
+    row = h .row;
+    position = implied (columnStep l x y d) _ (on-side columnTest (stays .0) d) q;
+  }
+
+  pub down : (e : Side) → rowStep l x y e ≡ true → Held l region x (next e y)
+  down e q = record {
+    column = h .column;
+    row = row-below l x y e q;
+    position = implied (rowStep l x y e) _ (on-side rowTest (stays .1) e) q;
+  }
+
+  pub diagonal : (d e : Side) → diagonalStep l x y d e ≡ true → Held l region (next d x) (next e y)
+  unfolding diagonalStep
+  diagonal d e q =
+      let c = both (columnStep l x y d) _ q in
+      record {
+        column = column-below l x y d (c .0);
+        row = row-below l x y e (both (rowStep l x y e) _ (c .1) .0);
+        position = implied (diagonalStep l x y d e) _ (on-side (diagonalTest d) (on-side (λ d. bothSides (diagonalTest d)) (stays .2) d) e) q;
+      }

@@ -1,0 +1,87 @@
+-- The way along one axis from a position to the one that is read for its neighbour: within a cell, or over one side of the CTB. Assumes nothing.
+use mathlib.Core.Path.{_≡_, refl, sym, ap, _∙_}
+use mathlib.Core.Logic.{_≢_, by-cases}
+use mathlib.Core.Bool.{Bool, true, false}
+use mathlib.Core.List.{List·Memᴰ}
+use Prim.Native.Nat.{ℕ, suc, pred, _+_, _*_, _/_, _≤_, _<_}
+use native.Mathlib.Decide.{ℕ-discrete}
+use native.Mathlib.Omega.{arith}
+use Rattle.alf_spec.specs.Geometry.{Side, before, after, next, gap, Axis, ctbStart}
+use Rattle.alf_spec.specs.Isolation.{openStep}
+use Rattle.alf_spec.proofs.Axes.{by-gt, Regular, lower, upper, ctb-of}
+use Rattle.alf_spec.proofs.IsolatedRegions.Cells.{Clear, Cell, cell-sym}
+use Rattle.alf_spec.proofs.IsolatedRegions.Steps.{open-step}
+
+-- u and v, at most 7 apart, stand in two CTBs: e is the last position of the first
+record Split (a : Axis) (u v e : ℕ) : Type 0 where
+  left : Cell a u e
+  right : Cell a (suc e) v
+  free : ¬ List·Memᴰ (suc e) (a .virtualBoundaries)
+  first : ctbStart a v ≡ suc e
+
+module _ (a : Axis) (ok : Regular a) where
+  split : (u v e : ℕ) → suc e ≡ ctbStart a u + a .ctb → u ≤ v → v ≤ u + 7 → v < a .size → Clear a u v → u / a .ctb ≢ v / a .ctb → Split a u v e
+  split u v e q le short inV clear ne =
+      let lo = lower a ok u in
+      let hi = upper a ok u in
+      let big = ok .big in
+      let past : suc e ≤ v = by-gt (λ h. absurd (ne (sym (ctb-of a ok (u / a .ctb) v (omega arith) (omega arith))))) in
+      let r : v / a .ctb ≡ suc (u / a .ctb) = ctb-of a ok (suc (u / a .ctb)) v (omega arith) (omega arith) in
+      record {
+        left = record {
+          inU = omega arith;
+          inV = omega arith;
+          ctb = sym (ctb-of a ok (u / a .ctb) e (omega arith) (omega arith));
+          clear = λ b w. (λ k. omega arith, λ k. clear b w .1 (omega arith));
+        };
+        right = record {
+          inU = omega arith;
+          inV = inV;
+          ctb = ctb-of a ok (suc (u / a .ctb)) (suc e) (omega arith) (omega arith) ∙ sym r;
+          clear = λ b w. (λ k. omega arith, λ k. let z = clear b w .1 k in omega arith);
+        };
+        free = λ w. let z = clear (suc e) w .1 past in omega arith;
+        first = omega (arith, ap (λ (n : ℕ). n * a .ctb) r);
+      }
+
+-- u lies on that side of x, or is x
+abbrev pub Toward : Side → ℕ → ℕ → Type 0
+Toward before x u = u ≤ x
+Toward after x u = x ≤ u
+
+-- the outermost position of x's CTB on that side
+abbrev pub rim : Axis → Side → ℕ → ℕ
+rim a before x = ctbStart a x
+rim a after x = pred (ctbStart a x + a .ctb)
+
+-- what clip positions ensure along one axis, for a position x and the position u that is read
+pub record Guarded (a : Axis) (disabled : Side → Bool) (d : Side) (x u : ℕ) : Type 0 where
+  pub inPicture : u < a .size
+  pub toward : Toward d x u
+  pub low : x ≤ u + 7
+  pub high : u ≤ x + 7
+  pub clear : Clear a x u
+  pub enabled : x / a .ctb ≢ u / a .ctb → disabled d ≡ false
+
+pub data Way (a : Axis) (disabled : Side → Bool) (d : Side) (x u : ℕ) : Type 0 where
+  here : Cell a x u → Way a disabled d x u
+  over : (m : ℕ) → rim a d x ≡ m → Cell a x m → 0 < gap d m → gap d m < a .size → openStep a disabled d m ≡ true → Cell a (next d m) u
+      → x / a .ctb ≢ u / a .ctb → Way a disabled d x u
+
+module _ (a : Axis) (ok : Regular a) (disabled : Side → Bool) where
+  cross : (d : Side) (x u : ℕ) → x < a .size → Guarded a disabled d x u → x / a .ctb ≢ u / a .ctb → Way a disabled d x u
+  cross before x u inX p ne =
+      let e = pred (ctbStart a u + a .ctb) in
+      let s = split a ok u x e (omega (arith, ok .big)) (p .toward) (p .low) inX (λ b w. (p .clear b w .1, p .clear b w .0)) (λ q. ne (sym q)) in
+      over (suc e) (s .first) (cell-sym (s .right)) (omega arith) (s .right .inU)
+      (open-step a disabled before (suc e) (omega arith) (s .right .inU) (s .free) (λ _. p .enabled ne)) (cell-sym (s .left)) ne
+  cross after x u inX p ne =
+      let e = pred (ctbStart a x + a .ctb) in
+      let s = split a ok x u e (omega (arith, ok .big)) (p .toward) (p .high) (p .inPicture) (p .clear) ne in
+      over e refl (s .left) (omega arith) (s .right .inU)
+      (open-step a disabled after e (omega arith) (s .right .inU) (s .free) (λ _. p .enabled ne)) (s .right) ne
+
+  pub way : (d : Side) (x u : ℕ) → x < a .size → Guarded a disabled d x u → Way a disabled d x u
+  way d x u inX p = by-cases (ℕ-discrete (x / a .ctb) (u / a .ctb))
+      (λ q. here (record { inU = inX; inV = p .inPicture; ctb = q; clear = p .clear }))
+      (cross d x u inX p)
