@@ -1,12 +1,18 @@
 -- What acceptance says of a layout and of an input. Assumes nothing.
 use mathlib.Core.Path.{_≡_, refl}
-use mathlib.Core.Bool.{Bool, true, false, _&&_}
+use mathlib.Core.Bool.{Bool, true, false, not, _&&_}
 use mathlib.Core.List.{List}
-use Prim.Native.Nat.{ℕ, suc}
+use Prim.Native.Nat.{ℕ, suc, _≤_}
 use native.Mathlib.Nat.{suc-ne-zero}
-use Rattle.alf_spec.specs.Input.{Layout, Operation, Input}
-use Rattle.alf_spec.specs.Faults.{pictureSizeValid, ctbSizeValid, bitDepthValid, chromaFormatValid, componentValid, layoutLengthsValid, lengthsValid, regionLengthValid, virtualBoundariesValid, tilesValid, slicesValid, subpicturesValid, regionValid, unless, sizesFault, boundariesFault, tablesFault, fault, isolationFault}
-use Rattle.alf_spec.proofs.Tests.{both}
+use lib.Dec.{eqb, leb}
+use lib.ListN.{length}
+use borrow.Author.Tests.{leb-true, eqb-true}
+use Rattle.alf_spec.specs.declared.Picture.{Picture}
+use Rattle.alf_spec.specs.Lists.{implies}
+use Rattle.alf_spec.specs.Input.{Layout, Operation, given, Input}
+use Rattle.alf_spec.specs.Geometry.{lumaPlane, chromaPlane, planeLength}
+use Rattle.alf_spec.specs.Faults.{pictureSizeValid, ctbSizeValid, bitDepthValid, chromaFormatValid, componentValid, layoutLengthsValid, filterLengthsValid, fixedLengthsValid, lengthsValid, regionLengthValid, virtualBoundariesValid, tilesValid, slicesValid, subpicturesValid, regionValid, unless, sizesFault, boundariesFault, tablesFault, fault, isolationFault}
+use Rattle.alf_spec.proofs.Tests.{both, implied}
 
 -- of a chain of tests that gives no number, the first passes, and what follows gives none
 passed : (test : Bool) (n rest : ℕ) → unless test (suc n) rest ≡ 0 → (test ≡ true) × (rest ≡ 0)
@@ -67,3 +73,29 @@ accepted op i q =
 pub accepted-layout : (l : Layout) (region : List ℕ) → isolationFault l region ≡ 0 → Accepted l
 unfolding isolationFault
 accepted-layout l region q = chain l (regionLengthValid l region) (unless (regionValid region) 14 0) (chromaFormatValid (l .picture)) q .0
+
+-- a component is 0 or 1: cause 4 of the chroma and of the cross-component filter
+pub component-of : (p : Picture) (component : ℕ) → (not (eqb (p .«chroma_format») 0) && leb component 1) ≡ true → component ≤ 1
+component-of p component q = leb-true component 1 (both (not (eqb (p .«chroma_format») 0)) (leb component 1) q .1)
+
+-- the planes that an operation is given have the picture's size
+module _ (op : Operation) (i : Input) (ok : fault op i ≡ 0) where
+  abbrev lumaLength : Bool
+  lumaLength = eqb (length (i .luma)) (planeLength (lumaPlane (i .layout)))
+
+  abbrev chromaLength : Bool
+  chromaLength = eqb (length (i .chroma)) (planeLength (chromaPlane (i .layout)))
+
+  lengths : (implies (given op .luma) lumaLength ≡ true) × (implies (given op .chroma) chromaLength ≡ true)
+  unfolding lengthsValid
+  lengths =
+      let afterFilters = both (implies (given op .filters) (filterLengthsValid i)) _ (accepted op i ok .2) .1 in
+      let afterFixed = both (implies (given op .fixed) (fixedLengthsValid i)) _ afterFilters .1 in
+      let luma = both (implies (given op .luma) lumaLength) _ afterFixed in
+      (luma .0, both (implies (given op .chroma) chromaLength) _ (luma .1) .0)
+
+  pub luma-length : given op .luma ≡ true → length (i .luma) ≡ planeLength (lumaPlane (i .layout))
+  luma-length e = eqb-true (length (i .luma)) _ (implied (given op .luma) lumaLength (lengths .0) e)
+
+  pub chroma-length : given op .chroma ≡ true → length (i .chroma) ≡ planeLength (chromaPlane (i .layout))
+  chroma-length e = eqb-true (length (i .chroma)) _ (implied (given op .chroma) chromaLength (lengths .1) e)

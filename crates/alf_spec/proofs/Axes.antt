@@ -1,9 +1,9 @@
 -- One axis of an accepted picture: its size, CTBs and virtual boundaries are multiples of 8; and the CTB of a position on it. Assumes nothing.
-use mathlib.Core.Path.{_≡_, ap, _∙_}
-use mathlib.Core.Logic.{⊎-elim, by-cases}
-use mathlib.Core.Bool.{Bool, true}
-use mathlib.Core.List.{List, [], _∷_, List·Memᴰ, List·Memᴰ·not-nil, List·Memᴰ·cases-cons}
-use Prim.Native.Nat.{ℕ, suc, _+_, _-_, _*_, _/_, _%_, _^_, _≤_, _<_}
+use mathlib.Core.Path.{_≡_}
+use mathlib.Core.Logic.{by-cases}
+use mathlib.Core.Bool.{true}
+use mathlib.Core.List.{List, List·Memᴰ}
+use Prim.Native.Nat.{ℕ, _+_, _-_, _*_, _/_, _%_, _^_, _≤_, _<_}
 use native.Mathlib.Nat.{div-mul-le-self, lt-div-mul-add, div-eq-of-lt-le, div-add-mod'}
 use native.Mathlib.Decide.{decLe, ℕ-discrete}
 use native.Mathlib.Omega.{arith}
@@ -11,11 +11,11 @@ use lib.Dec.{eqb, leb}
 use lib.ListN.{length}
 use borrow.Author.Tests.{eqb-true, leb-true}
 use Rattle.alf_spec.specs.declared.Picture.{Picture}
-use Rattle.alf_spec.specs.Lists.{within, allBelow, everyFrom, every}
+use Rattle.alf_spec.specs.Lists.{within, allBelow, every}
 use Rattle.alf_spec.specs.Input.{Layout}
 use Rattle.alf_spec.specs.Geometry.{Axis, ctbSize, planeOf, ctbStart, inCtb}
 use Rattle.alf_spec.specs.Faults.{sizeValid, pictureSizeValid, ctbSizeValid, virtualPositionValid, apartAt, virtualListValid, virtualBoundariesValid}
-use Rattle.alf_spec.proofs.Tests.{both}
+use Rattle.alf_spec.proofs.Tests.{both, every-mem}
 use Rattle.alf_spec.proofs.Accepted.{Accepted}
 
 -- a ≤ b, if it follows from its failure
@@ -46,13 +46,6 @@ module _ (a : Axis) (ok : Regular a) where
   parts x = div-add-mod' x (a .ctb)
 
 -- ---- acceptance
-
-every-mem : (test : ℕ → Bool) (k : ℕ) (xs : List ℕ) → everyFrom k (λ _ x. test x) xs ≡ true → (v : ℕ) → List·Memᴰ v xs → test v ≡ true
-unfolding everyFrom
-every-mem test k [] q v m = absurd (List·Memᴰ·not-nil m)
-every-mem test k (x ∷ xs) q v m =
-    let h = both (test x) (everyFrom (suc k) (λ _ x. test x) xs) q in
-    ⊎-elim (λ (e : v ≡ x). ap test e ∙ h .0) (λ n. every-mem test (suc k) xs (h .1) v n) (List·Memᴰ·cases-cons m)
 
 size-of : (n : ℕ) → sizeValid n ≡ true → n % 8 ≡ 0
 size-of n q = eqb-true (n % 8) 0 (both (eqb (n % 8) 0) (within 8 4096 n) q .0)

@@ -1,11 +1,18 @@
--- Why nothing outside an isolated region has an effect inside it: what a filter reads for a sample inside lies inside.
+-- Isolated regions: what a filter reads for a sample inside one lies inside (Reads), so its results inside are the same in two runs (Results);
+-- and which regions are isolated (SwitchedOff, SmallRegions).
 pub mod Cells
 pub mod Clamping
 pub mod ClipPositions
+pub mod CornerRules
 pub mod Crossing
 pub mod Held
 pub mod Inside
 pub mod Reach
 pub mod Reads
+pub mod Results
+pub mod Samples
+pub mod SmallRegions
 pub mod Steps
+pub mod SwitchedOff
 pub mod Ways
+pub mod WholeCtbs

@@ -3,8 +3,11 @@ pub mod Accepted
 pub mod Axes
 pub mod Examples
 pub mod IsolatedRegions
+pub mod Lists
+pub mod Planes
 pub mod Rejections
 pub mod SmallPictures
 pub mod TapOrder
 pub mod Tests
+pub mod TwoRuns
 pub mod WorkedExamples

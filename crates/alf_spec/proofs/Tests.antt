@@ -1,12 +1,15 @@
--- What a test of every number, or of every entry of a list, says of one of them. Assumes nothing.
+-- Laws of tests: of their connectives, and what a test of every number, or of every entry of a list, says of one of them. Assumes nothing.
 use mathlib.Core.Path.{_≡_, refl, _∙_, ap}
-use mathlib.Core.Bool.{Bool, true, false, _&&_, false≢true}
-use mathlib.Core.List.{List, [], _∷_}
+use mathlib.Core.Bool.{Bool, true, false, _&&_, _||_, cond, true≢false, false≢true}
+use mathlib.Core.List.{List, [], _∷_, List·Memᴰ, List·Memᴰ·not-nil, List·Memᴰ·cases-cons}
 use mathlib.Core.Logic.{⊎-elim}
 use Prim.Native.Nat.{ℕ, zero, suc, _+_, _<_}
 use native.Mathlib.Nat.{add-zero, add-suc, suc-add, not-suc-le-zero, le-of-suc-le-suc, eq-or-lt-of-le}
+use native.Mathlib.Omega.{arith}
 use lib.ListN.{length, getD}
-use Rattle.alf_spec.specs.Lists.{allBelow, everyFrom}
+use Rattle.alf_spec.specs.Lists.{implies, allBelow, everyFrom}
+
+-- ---- connectives
 
 -- the two parts of a conjunction
 pub both : (a b : Bool) → (a && b) ≡ true → (a ≡ true) × (b ≡ true)
@@ -16,7 +19,27 @@ both false b e = absurd (false≢true e)
 -- a conjunction that fails, though its first part holds
 pub and-no : (a b : Bool) → (a && b) ≡ false → a ≡ true → b ≡ false
 and-no true b e h = e
-and-no false b e h = cc
+and-no false b e h = absurd (false≢true h)
+
+-- the two parts of a disjunction that fails
+pub neither : (a b : Bool) → (a || b) ≡ false → (a ≡ false) × (b ≡ false)
+neither true b e = absurd (true≢false e)
+neither false b e = (refl, e)
+
+pub implied : (a b : Bool) → implies a b ≡ true → a ≡ true → b ≡ true
+implied true b e h = e
+implied false b e h = absurd (false≢true h)
+
+pub imply : (a b : Bool) → (a ≡ true → b ≡ true) → implies a b ≡ true
+imply true b f = f refl
+imply false b f = refl
+
+-- what holds of both branches
+pub cond-either : {A : Type 0} (P : A → Type 0) (b : Bool) (x y : A) → P x → P y → P (cond b x y)
+cond-either P true x y p q = p
+cond-either P false x y p q = q
+
+-- ---- every number, every entry
 
 pub all-at : (n : ℕ) (test : ℕ → Bool) → allBelow n test ≡ true → (k : ℕ) → k < n → test k ≡ true
 unfolding allBelow
@@ -25,6 +48,11 @@ all-at (suc n) test e k h =
     let parts = both (allBelow n test) (test n) e in
     ⊎-elim (λ (q : k ≡ n). ap test q ∙ parts .1) (λ l. all-at n test (parts .0) k l) (eq-or-lt-of-le (le-of-suc-le-suc h))
 
+pub at-all : (n : ℕ) (test : ℕ → Bool) → ((k : ℕ) → k < n → test k ≡ true) → allBelow n test ≡ true
+unfolding allBelow
+at-all zero test f = refl
+at-all (suc n) test f = simp (at-all n test (λ k h. f k (omega arith)), f n (omega arith))
+
 pub every-at : {A : Type 0} (d : A) (k : ℕ) (test : ℕ → A → Bool) (xs : List A) → everyFrom k test xs ≡ true
     → (j : ℕ) → j < length xs → test (k + j) (getD xs j d) ≡ true
 unfolding everyFrom
@@ -32,3 +60,10 @@ every-at d k test [] e j h = absurd (not-suc-le-zero h)
 every-at d k test (x ∷ xs) e zero h = rw add-zero (both (test k x) (everyFrom (suc k) test xs) e .0)
 every-at d k test (x ∷ xs) e (suc j) h =
     rw (add-suc, ← suc-add) (every-at d (suc k) test xs (both (test k x) (everyFrom (suc k) test xs) e .1) j (le-of-suc-le-suc h))
+
+pub every-mem : (test : ℕ → Bool) (k : ℕ) (xs : List ℕ) → everyFrom k (λ _ x. test x) xs ≡ true → (v : ℕ) → List·Memᴰ v xs → test v ≡ true
+unfolding everyFrom
+every-mem test k [] q v m = absurd (List·Memᴰ·not-nil m)
+every-mem test k (x ∷ xs) q v m =
+    let h = both (test x) (everyFrom (suc k) (λ _ x. test x) xs) q in
+    ⊎-elim (λ (e : v ≡ x). ap test e ∙ h .0) (λ n. every-mem test (suc k) xs (h .1) v n) (List·Memᴰ·cases-cons m)

@@ -1,16 +1,14 @@
 -- What an isolated region holds: with a sample, every sample that an open step leads to. Assumes nothing.
 use mathlib.Core.Path.{_≡_}
-use mathlib.Core.Bool.{Bool, true, false}
+use mathlib.Core.Bool.{Bool, true}
 use mathlib.Core.List.{List}
-use Prim.Native.Nat.{ℕ, suc, pred, _<_}
-use native.Mathlib.Omega.{arith}
-use lib.Dec.{ltb}
-use borrow.Author.Tests.{ltb-true}
+use Prim.Native.Nat.{ℕ, _<_}
 use Rattle.alf_spec.specs.Lists.{implies}
 use Rattle.alf_spec.specs.Input.{Layout}
-use Rattle.alf_spec.specs.Geometry.{Side, before, after, next, hasNext, Axis, planeOf, lumaPlane}
-use Rattle.alf_spec.specs.Isolation.{openStep, columnStep, rowStep, diagonalStep, inside, bothSides, staysInside, isolated}
-use Rattle.alf_spec.proofs.Tests.{both, all-at}
+use Rattle.alf_spec.specs.Geometry.{Side, before, after, next, planeOf, lumaPlane}
+use Rattle.alf_spec.specs.Isolation.{columnStep, rowStep, diagonalStep, inside, bothSides, staysInside, isolated}
+use Rattle.alf_spec.proofs.Tests.{both, implied, all-at}
+use Rattle.alf_spec.proofs.IsolatedRegions.Steps.{next-below, opened}
 
 -- the luma sample at column x and row y lies in the picture and in the region
 pub record Held (l : Layout) (region : List ℕ) (x y : ℕ) : Type 0 where
@@ -18,33 +16,18 @@ pub record Held (l : Layout) (region : List ℕ) (x y : ℕ) : Type 0 where
   pub row : y < l .picture .height
   pub position : inside l region x y ≡ true
 
-implied : (a b : Bool) → implies a b ≡ true → a ≡ true → b ≡ true
-implied true b q h = q
-implied false b q h = cc
-
 on-side : (test : Side → Bool) → bothSides test ≡ true → (d : Side) → test d ≡ true
 on-side test q before = both (test before) (test after) q .0
 on-side test q after = both (test before) (test after) q .1
 
-next-below : (n : ℕ) (d : Side) (x : ℕ) → hasNext n d x ≡ true → next d x < n
-next-below n before x q =
-    let h = ltb-true x n (both (ltb 0 x) (ltb x n) q .1) in
-    let k : pred x < n = omega arith in
-    k
-next-below n after x q = ltb-true (suc x) n (both (ltb 0 (suc x)) (ltb (suc x) n) q .1)
-
-open-below : (a : Axis) (disabled : Side → Bool) (d : Side) (x : ℕ) → openStep a disabled d x ≡ true → next d x < a .size
-unfolding openStep
-open-below a disabled d x q = next-below (a .size) d x (both (hasNext (a .size) d x) _ q .0)
-
 module _ (l : Layout) (x y : ℕ) where
   column-below : (d : Side) → columnStep l x y d ≡ true → next d x < l .picture .width
   unfolding columnStep planeOf
-  column-below d q = open-below (lumaPlane l .columns) _ d x q
+  column-below d q = next-below _ d x (opened (lumaPlane l .columns) _ d x q .1)
 
   row-below : (e : Side) → rowStep l x y e ≡ true → next e y < l .picture .height
   unfolding rowStep planeOf
-  row-below e q = open-below (lumaPlane l .rows) _ e y q
+  row-below e q = next-below _ e y (opened (lumaPlane l .rows) _ e y q .1)
 
 module _ (l : Layout) (region : List ℕ) (iso : isolated l region ≡ true) (x y : ℕ) (h : Held l region x y) where
   -- the three parts of `staysInside`

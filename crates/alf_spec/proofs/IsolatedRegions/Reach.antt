@@ -3,8 +3,9 @@ use mathlib.Core.Path.{_≡_}
 use mathlib.Core.List.{List}
 use Prim.Native.Nat.{ℕ, _+_, _*_, _%_, _≤_, _<_}
 use native.Mathlib.Omega.{arith}
+use Rattle.alf_spec.specs.declared.Picture.{Picture}
 use Rattle.alf_spec.specs.Input.{Layout}
-use Rattle.alf_spec.specs.Geometry.{Plane, lumaPosition}
+use Rattle.alf_spec.specs.Geometry.{Plane, subWidth, subHeight, lumaPosition}
 use Rattle.alf_spec.specs.Padding.{read}
 use Rattle.alf_spec.proofs.IsolatedRegions.Inside.{Inside}
 
@@ -28,6 +29,11 @@ reach-window x p q h k = omega arith
 pub data Ratio : ℕ → Type 0 where
   whole : Ratio 1
   half : Ratio 2
+
+-- the one place that says which
+pub chroma-ratios : (p : Picture) → Ratio (subWidth p) × Ratio (subHeight p)
+unfolding subWidth subHeight
+chroma-ratios p = (half, half)
 
 -- chroma taps: up to 2 of the plane's own samples either way
 pub reach-chroma : (r : ℕ) → Ratio r → (x p : ℕ) → x ≤ p + 2 → p ≤ x + 2 → Reach (x * r) (p * r)

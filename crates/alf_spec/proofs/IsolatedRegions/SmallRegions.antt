@@ -1,0 +1,39 @@
+-- Two regions that can be judged at sight: one of no block, and a subpicture beside one that filters across its sides. Assumes nothing.
+use mathlib.Core.Path.{_≡_, refl}
+use mathlib.Core.Bool.{true, false}
+use mathlib.Core.List.{[], _∷_}
+use Prim.Native.Nat.{ℕ, zero, suc}
+use lib.ListN.{replicate, getD}
+use Rattle.alf_spec.specs.Input.{Layout}
+use Rattle.alf_spec.specs.Lists.{allBelow, everyFrom, elem, tabulate}
+use Rattle.alf_spec.specs.Geometry.{ctbSize, planeOf}
+use Rattle.alf_spec.specs.Boundary.{sliceOf, subpicOf, tileColumnOf, tileRowOf, tileDisables, sliceDisables, subpicDisables, columnDisabled, rowDisabled}
+use Rattle.alf_spec.specs.Isolation.{openStep, columnStep, rowStep, diagonalStep, inside, staysInside, isolated, regionOf, subpicRegion}
+use Rattle.alf_spec.specs.Faults.{pictureSizeValid, ctbSizeValid, bitDepthValid, chromaFormatValid, layoutLengthsValid, virtualListValid, virtualBoundariesValid, followsAt, tileListValid, tilesValid, cornersValid, slicesValid, subpicturesValid, regionLengthValid, regionValid, unless, sizesFault, boundariesFault, isolationFault}
+use Rattle.alf_spec.proofs.Tests.{at-all}
+use Rattle.alf_spec.proofs.Examples.{picture, layout}
+
+zero-at : (n k : ℕ) → getD (replicate {A = ℕ} n 0) k 0 ≡ 0
+zero-at zero k = refl
+zero-at (suc n) zero = refl
+zero-at (suc n) (suc k) = zero-at n k
+
+-- 01: an area of no block is shut
+pub zeros-isolated : (l : Layout) (n : ℕ) → isolated l (replicate n 0) ≡ true
+unfolding inside isolated
+zeros-isolated l n = at-all _ _ (λ y row. at-all _ _ (λ x column. simp zero-at))
+
+-- 64 by 8 luma samples, two CTBs of 32, in one tile and slice
+abbrev twoSubpictures : Layout
+twoSubpictures = layout (picture 64 8 5 8 0 1) [] (0 ∷ 0 ∷ []) (0 ∷ []) (0 ∷ 0 ∷ []) (0 ∷ 1 ∷ []) (0 ∷ replicate 63 1)
+
+-- 01: two subpictures side by side in one tile and slice, no virtual boundary, left switch off, right on: the left area is shut, the right is not
+pub record SubpictureExample : Type 0 where
+  pub left-accepted : isolationFault twoSubpictures (subpicRegion twoSubpictures 0) ≡ 0
+  pub left : isolated twoSubpictures (subpicRegion twoSubpictures 0) ≡ true
+  pub right-accepted : isolationFault twoSubpictures (subpicRegion twoSubpictures 1) ≡ 0
+  pub right : isolated twoSubpictures (subpicRegion twoSubpictures 1) ≡ false
+
+pub subpicture-example : SubpictureExample
+unfolding allBelow everyFrom elem tabulate ctbSize planeOf sliceOf subpicOf tileColumnOf tileRowOf tileDisables sliceDisables subpicDisables columnDisabled rowDisabled openStep columnStep rowStep diagonalStep inside staysInside isolated regionOf subpicRegion pictureSizeValid ctbSizeValid bitDepthValid chromaFormatValid layoutLengthsValid virtualListValid virtualBoundariesValid followsAt tileListValid tilesValid cornersValid slicesValid subpicturesValid regionLengthValid regionValid unless sizesFault boundariesFault isolationFault
+subpicture-example = record { left-accepted = refl; left = refl; right-accepted = refl; right = refl }

@@ -1,0 +1,36 @@
+-- Laws of the lists in `specs/Lists`: what stands in a table, and in a list with entries written anew. Assumes nothing.
+use mathlib.Core.Path.{_≡_, refl}
+use mathlib.Core.Bool.{Bool, cond}
+use mathlib.Core.List.{List, [], _∷_, map}
+use Prim.Native.Nat.{ℕ, zero, suc, _<_, suc-le-suc}
+use native.Mathlib.Nat.{not-suc-le-zero, le-of-suc-le-suc, zero-lt-suc}
+use lib.ListN.{length, getD}
+use Rattle.alf_spec.specs.Lists.{tabulate, painted}
+
+pub tabulate-at : (n : ℕ) (f : ℕ → ℕ) (k : ℕ) → k < n → getD (tabulate n f) k 0 ≡ f k
+unfolding tabulate
+tabulate-at zero f k h = absurd (not-suc-le-zero h)
+tabulate-at (suc n) f zero h = refl
+tabulate-at (suc n) f (suc k) h = tabulate-at n (λ k. f (suc k)) k (le-of-suc-le-suc h)
+
+pub tabulate-same : (n : ℕ) (f g : ℕ → ℕ) → ((k : ℕ) → k < n → f k ≡ g k) → tabulate n f ≡ tabulate n g
+unfolding tabulate
+tabulate-same zero f g e = refl
+tabulate-same (suc n) f g e = λ t. e zero (zero-lt-suc n) t ∷ tabulate-same n (λ k. f (suc k)) (λ k. g (suc k)) (λ k h. e (suc k) (suc-le-suc h)) t
+
+pub painted-at : (xs : List ℕ) (test : ℕ → Bool) (value : ℕ → ℕ) (k : ℕ) → k < length xs
+    → getD (painted xs test value) k 0 ≡ cond (test k) (value k) (getD xs k 0)
+unfolding painted
+painted-at [] test value k h = absurd (not-suc-le-zero h)
+painted-at (x ∷ xs) test value zero h = refl
+painted-at (x ∷ xs) test value (suc k) h = painted-at xs (λ k. test (suc k)) (λ k. value (suc k)) k (le-of-suc-le-suc h)
+
+-- ---- what holds of each entry
+
+abbrev pub Each : {A : Type 0} → (A → Type 0) → List A → Type 0
+Each P [] = Unit
+Each P (x ∷ xs) = P x × Each P xs
+
+pub map-same : {A B : Type 0} (P : A → Type 0) (f g : A → B) → ((x : A) → P x → f x ≡ g x) → (xs : List A) → Each P xs → map f xs ≡ map g xs
+map-same P f g e [] h = refl
+map-same P f g e (x ∷ xs) h = λ t. e x (h .0) t ∷ map-same P f g e xs (h .1) t
