@@ -1,7 +1,7 @@
 -- One axis of an accepted picture: its size, CTBs and virtual boundaries are multiples of 8; and the CTB of a position on it. Assumes nothing.
 use mathlib.Core.Path.{_≡_}
 use mathlib.Core.Logic.{by-cases}
-use mathlib.Core.Bool.{true}
+use mathlib.Core.Bool.{Bool, true, false}
 use mathlib.Core.List.{List, List·Memᴰ}
 use Prim.Native.Nat.{ℕ, _+_, _-_, _*_, _/_, _%_, _^_, _≤_, _<_}
 use native.Mathlib.Nat.{div-mul-le-self, lt-div-mul-add, div-eq-of-lt-le, div-add-mod'}
@@ -69,30 +69,28 @@ ctb-sizes p q =
         (λ n5. by-cases (ℕ-discrete n 6) (λ (e : n ≡ 6). rw e (omega arith))
         (λ n6. let e : n ≡ 7 = omega arith in rw e (omega arith)))
 
+-- an axis of a picture
+regular : (p : Picture) → ctbSizeValid p ≡ true → (size : ℕ) (list : List ℕ) (line : Bool) (ratio : ℕ)
+    → sizeValid size ≡ true → virtualListValid size (ctbSize p) list ≡ true
+    → Regular (record { size = size; ctb = ctbSize p; virtualBoundaries = list; hasLine = line; ratio = ratio })
+regular p c size list line ratio s v = record {
+  big = ctb-sizes p c .0;
+  ctb8 = ctb-sizes p c .1;
+  size8 = size-of size s;
+  virtual8 = virtual-of size (ctbSize p) list v;
+}
+
 module _ (l : Layout) (ok : Accepted l) (columnRatio rowRatio : ℕ) where
-  sizes : (sizeValid (l .picture .width) ≡ true) × (sizeValid (l .picture .height) ≡ true)
-  unfolding pictureSizeValid
-  sizes = both (sizeValid (l .picture .width)) (sizeValid (l .picture .height)) (ok .sizes)
-
-  virtuals : (virtualListValid (l .picture .width) (ctbSize (l .picture)) (l .virtualColumns) ≡ true)
-      × (virtualListValid (l .picture .height) (ctbSize (l .picture)) (l .virtualRows) ≡ true)
-  unfolding virtualBoundariesValid
-  virtuals = both (virtualListValid (l .picture .width) (ctbSize (l .picture)) (l .virtualColumns)) _ (ok .virtualBoundaries)
-
   pub regular-columns : Regular (planeOf l columnRatio rowRatio .columns)
-  unfolding planeOf
-  regular-columns = record {
-    big = ctb-sizes (l .picture) (ok .ctbSize) .0;
-    ctb8 = ctb-sizes (l .picture) (ok .ctbSize) .1;
-    size8 = size-of (l .picture .width) (sizes .0);
-    virtual8 = virtual-of (l .picture .width) (ctbSize (l .picture)) (l .virtualColumns) (virtuals .0);
-  }
+  unfolding planeOf pictureSizeValid virtualBoundariesValid
+  regular-columns =
+      regular (l .picture) (ok .ctbSize) (l .picture .width) (l .virtualColumns) false columnRatio
+      (both (sizeValid (l .picture .width)) _ (ok .sizes) .0)
+      (both (virtualListValid (l .picture .width) (ctbSize (l .picture)) (l .virtualColumns)) _ (ok .virtualBoundaries) .0)
 
   pub regular-rows : Regular (planeOf l columnRatio rowRatio .rows)
-  unfolding planeOf
-  regular-rows = record {
-    big = ctb-sizes (l .picture) (ok .ctbSize) .0;
-    ctb8 = ctb-sizes (l .picture) (ok .ctbSize) .1;
-    size8 = size-of (l .picture .height) (sizes .1);
-    virtual8 = virtual-of (l .picture .height) (ctbSize (l .picture)) (l .virtualRows) (virtuals .1);
-  }
+  unfolding planeOf pictureSizeValid virtualBoundariesValid
+  regular-rows =
+      regular (l .picture) (ok .ctbSize) (l .picture .height) (l .virtualRows) true rowRatio
+      (both (sizeValid (l .picture .width)) _ (ok .sizes) .1)
+      (both (virtualListValid (l .picture .width) (ctbSize (l .picture)) (l .virtualColumns)) _ (ok .virtualBoundaries) .1)

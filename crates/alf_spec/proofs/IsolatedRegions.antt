@@ -7,6 +7,8 @@ pub mod CornerRules
 pub mod Crossing
 pub mod Held
 pub mod Inside
+pub mod PastCtb
+pub mod Ratios
 pub mod Reach
 pub mod Reads
 pub mod Results

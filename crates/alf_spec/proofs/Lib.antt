@@ -6,6 +6,7 @@ pub mod IsolatedRegions
 pub mod Lists
 pub mod Planes
 pub mod Rejections
+pub mod RewrittenOutside
 pub mod SmallPictures
 pub mod TapOrder
 pub mod Tests

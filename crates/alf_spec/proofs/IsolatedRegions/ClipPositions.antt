@@ -55,21 +55,25 @@ abbrev pub Near : Side → ℕ → ℕ → Type 0
 Near before x b = (b ≤ x) × (x < b + 3)
 Near after x b = (x < b) × (b ≤ x + 4)
 
+-- a test with a limit that is no higher
+at-most : (m n k : ℕ) → leb m n ≡ true → n ≤ k → m ≤ k
+at-most m n k q h = let l = leb-true m n q in omega arith
+
 near-yes : (d : Side) (x b : ℕ) → near d x b ≡ true → Near d x b
 near-yes before x b q =
-    let h = both (leb b x) (leb (x - b) 2) q in
+    let h = both (leb b x) _ q in
     let l = leb-true b x (h .0) in
-    let k = leb-true (x - b) 2 (h .1) in
+    let k = at-most (x - b) _ 2 (h .1) (omega arith) in
     omega arith
 near-yes after x b q =
-    let h = both (ltb x b) (leb (b - x) 4) q in
+    let h = both (ltb x b) _ q in
     let l = ltb-true x b (h .0) in
-    let k = leb-true (b - x) 4 (h .1) in
+    let k = at-most (b - x) _ 4 (h .1) (omega arith) in
     omega arith
 
 yes-near : (d : Side) (x b : ℕ) → Near d x b → near d x b ≡ true
-yes-near before x b n = simp (le-leb b x (n .0), le-leb (x - b) 2 (omega arith))
-yes-near after x b n = simp (lt-ltb x b (n .0), le-leb (b - x) 4 (omega arith))
+yes-near before x b n = simp (le-leb b x (n .0)) (le-leb (x - b) _ (omega arith))
+yes-near after x b n = simp (lt-ltb x b (n .0)) (le-leb (b - x) _ (omega arith))
 
 -- e is the first multiple of 4 on that side of x
 abbrev pub First : Side → ℕ → ℕ → Type 0
@@ -87,10 +91,14 @@ abbrev pub bound : Axis → Side → ℕ → ℕ
 bound a before x = ctbStart a x
 bound a after x = ctbStart a x + a .ctb
 
--- what the side's own test, y < 3 or S − y < 5, tests
-abbrev sideTest : Axis → Side → ℕ → Bool
-sideTest a before x = ltb (inCtb a x) 3
-sideTest a after x = ltb (a .ctb - inCtb a x) 5
+-- the side's own test, y < 3 or S − y < 5, with its limit
+abbrev sideTest : Axis → Side → ℕ → ℕ → Bool
+sideTest a before x n = ltb (inCtb a x) n
+sideTest a after x n = ltb (a .ctb - inCtb a x) n
+
+abbrev sideLimit : Side → ℕ
+sideLimit before = 3
+sideLimit after = 5
 
 module _ (a : Axis) (ok : Regular a) (x : ℕ) where
   start4 : ctbStart a x % 4 ≡ 0
@@ -102,13 +110,13 @@ module _ (a : Axis) (ok : Regular a) (x : ℕ) where
   bound4 before = start4
   bound4 after = omega (arith, start4, ok .ctb8)
 
-  side-near : (d : Side) → sideTest a d x ≡ true → Near d x (bound a d x)
-  side-near before q = let h = ltb-true (inCtb a x) 3 q in omega (arith, lower a ok x, parts a ok x)
-  side-near after q = let h = ltb-true (a .ctb - inCtb a x) 5 q in omega (arith, upper a ok x, parts a ok x)
+  side-near : (d : Side) (n : ℕ) → n ≤ sideLimit d → sideTest a d x n ≡ true → Near d x (bound a d x)
+  side-near before n h q = let k = ltb-true (inCtb a x) n q in omega (arith, lower a ok x, parts a ok x)
+  side-near after n h q = let k = ltb-true (a .ctb - inCtb a x) n q in omega (arith, upper a ok x, parts a ok x)
 
-  near-side : (d : Side) → Near d x (bound a d x) → sideTest a d x ≡ true
-  near-side before n = lt-ltb (inCtb a x) 3 (omega (arith, parts a ok x))
-  near-side after n = lt-ltb (a .ctb - inCtb a x) 5 (omega (arith, parts a ok x))
+  near-side : (d : Side) (n : ℕ) → sideLimit d ≤ n → Near d x (bound a d x) → sideTest a d x n ≡ true
+  near-side before n h k = lt-ltb (inCtb a x) n (omega (arith, parts a ok x))
+  near-side after n h k = lt-ltb (a .ctb - inCtb a x) n (omega (arith, parts a ok x))
 
   first-line : (d : Side) → Ends (First d x) Unit (lineClip a x d)
   unfolding lineClip
@@ -132,16 +140,17 @@ module _ (a : Axis) (ok : Regular a) (x : ℕ) where
       (find-ends (near d x) (a .virtualBoundaries) (λ v m q. let v8 = ok .virtual8 v m in near-first d x v (omega arith) (near-yes d x v q)))
 
   module _ (disabled : Side → Bool) where
-    tested-side : (d : Side) → Ends (First d x) (Near d x (bound a d x) → disabled d ≡ false) (only (sideTest a d x && disabled d) (bound a d x))
-    tested-side d =
-        only-ends (sideTest a d x && disabled d) (bound a d x)
-        (λ q. near-first d x (bound a d x) (bound4 d) (side-near d (both (sideTest a d x) (disabled d) q .0)))
-        (λ q n. and-no (sideTest a d x) (disabled d) q (near-side d n))
+    tested-side : (d : Side) (n : ℕ) → n ≤ sideLimit d → sideLimit d ≤ n
+        → Ends (First d x) (Near d x (bound a d x) → disabled d ≡ false) (only (sideTest a d x n && disabled d) (bound a d x))
+    tested-side d n h k =
+        only-ends (sideTest a d x n && disabled d) (bound a d x)
+        (λ q. near-first d x (bound a d x) (bound4 d) (side-near d n h (both (sideTest a d x n) (disabled d) q .0)))
+        (λ q near. and-no (sideTest a d x n) (disabled d) q (near-side d n k near))
 
     first-side : (d : Side) → Ends (First d x) (Near d x (bound a d x) → disabled d ≡ false) (sideClip a x disabled d)
     unfolding sideClip
-    first-side before = tested-side before
-    first-side after = tested-side after
+    first-side before = tested-side before _ (omega arith) (omega arith)
+    first-side after = tested-side after _ (omega arith) (omega arith)
 
     pub clip-ends : (d : Side) → Ends (First d x) (Free disabled d) (clipPosition a x disabled d)
     unfolding clipPosition

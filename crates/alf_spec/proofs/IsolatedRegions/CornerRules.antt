@@ -3,7 +3,7 @@
 use mathlib.Core.Path.{_≡_, refl, sym}
 use mathlib.Core.Bool.{Bool, true, not, false≢true}
 use mathlib.Core.List.{List}
-use Prim.Native.Nat.{ℕ, zero, suc, _-_, _<_}
+use Prim.Native.Nat.{ℕ, zero, suc, _<_}
 use native.Mathlib.Nat.{add-suc, suc-mul}
 use native.Mathlib.Numerals.{add-one}
 use native.Mathlib.Omega.{arith}
@@ -44,7 +44,7 @@ module _ (rule : ℕ → ℕ → ℕ → ℕ → Bool) (l : Layout) (map : List 
       → rule (numberAt l map x y) (numberAt l map (suc x) y) (numberAt l map x (suc y)) (numberAt l map (suc x) (suc y)) ≡ true
   unfolding cornerAt cornersInRow cornersValid
   four x y column row =
-      simp (add-suc, suc-mul) (simp add-one at (all-at (ctbColumns l - 1) _ (all-at (ctbRows l - 1) _ valid y (omega arith)) x (omega arith)))
+      simp (add-suc, suc-mul) (simp add-one at (all-at _ _ (all-at _ _ valid y (omega arith)) x (omega arith)))
 
   four-from : (d e : Side) (q r : ℕ) → Neighbours (ctbColumns l) d q → Neighbours (ctbRows l) e r
       → ruleFrom rule d e (numberAt l map q r) (numberAt l map (next d q) r) (numberAt l map q (next e r)) (numberAt l map (next d q) (next e r)) ≡ true

@@ -3,10 +3,10 @@ use mathlib.Core.Path.{_≡_}
 use mathlib.Core.List.{List}
 use Prim.Native.Nat.{ℕ, _+_, _*_, _%_, _≤_, _<_}
 use native.Mathlib.Omega.{arith}
-use Rattle.alf_spec.specs.declared.Picture.{Picture}
 use Rattle.alf_spec.specs.Input.{Layout}
-use Rattle.alf_spec.specs.Geometry.{Plane, subWidth, subHeight, lumaPosition}
+use Rattle.alf_spec.specs.Geometry.{Plane, lumaPosition}
 use Rattle.alf_spec.specs.Padding.{read}
+use Rattle.alf_spec.proofs.IsolatedRegions.Ratios.{Ratio, whole, half}
 use Rattle.alf_spec.proofs.IsolatedRegions.Inside.{Inside}
 
 -- from x a filter may read at p: less than 8 away, and no multiple of 4 stands between the two that the rules for clip positions do not see
@@ -24,16 +24,6 @@ reach-luma x p h k = omega arith
 -- the class window: from a block's first sample, 3 before and 6 after
 pub reach-window : (x p : ℕ) → x % 4 ≡ 0 → x ≤ p + 3 → p ≤ x + 6 → Reach (x * 1) (p * 1)
 reach-window x p q h k = omega arith
-
--- luma samples to one of the plane's own: SubWidthC and SubHeightC are 1 or 2 in every format
-pub data Ratio : ℕ → Type 0 where
-  whole : Ratio 1
-  half : Ratio 2
-
--- the one place that says which
-pub chroma-ratios : (p : Picture) → Ratio (subWidth p) × Ratio (subHeight p)
-unfolding subWidth subHeight
-chroma-ratios p = (half, half)
 
 -- chroma taps: up to 2 of the plane's own samples either way
 pub reach-chroma : (r : ℕ) → Ratio r → (x p : ℕ) → x ≤ p + 2 → p ≤ x + 2 → Reach (x * r) (p * r)

@@ -14,12 +14,14 @@ use Rattle.alf_spec.specs.Isolation.{isolated}
 use Rattle.alf_spec.proofs.Tests.{both, and-no}
 use Rattle.alf_spec.proofs.Accepted.{Accepted}
 use Rattle.alf_spec.proofs.Axes.{Regular, regular-columns, regular-rows}
-use Rattle.alf_spec.proofs.IsolatedRegions.Clamping.{own-lt, lt-own, past-other, past-side, end-cell, guarded, crossed}
+use Rattle.alf_spec.proofs.IsolatedRegions.Clamping.{guarded, crossed}
+use Rattle.alf_spec.proofs.IsolatedRegions.PastCtb.{past-other, past-side, end-cell}
+use Rattle.alf_spec.proofs.IsolatedRegions.Ratios.{Ratio, own-lt, lt-own, Toward}
 use Rattle.alf_spec.proofs.IsolatedRegions.Crossing.{arrive}
 use Rattle.alf_spec.proofs.IsolatedRegions.Held.{Held}
 use Rattle.alf_spec.proofs.IsolatedRegions.Inside.{Inside, SameInside}
-use Rattle.alf_spec.proofs.IsolatedRegions.Reach.{Ratio, Reach, SameReads}
-use Rattle.alf_spec.proofs.IsolatedRegions.Ways.{Toward, Guarded, Way, here, over, way}
+use Rattle.alf_spec.proofs.IsolatedRegions.Reach.{Reach, SameReads}
+use Rattle.alf_spec.proofs.IsolatedRegions.Ways.{Guarded, Way, here, over, way}
 
 module _ (l : Layout) (ok : Accepted l) (region : List ℕ) (iso : isolated l region ≡ true) (columnRatio rowRatio : ℕ)
     (rc : Ratio columnRatio) (rr : Ratio rowRatio) where
@@ -106,7 +108,7 @@ module _ (l : Layout) (ok : Accepted l) (region : List ℕ) (iso : isolated l re
     unfolding pastCorner
     moved f t =
         let past = both (pastCtb (g .columns) f x u) _ t .0 in
-        back f (past-side (g .columns) okX ratioX d f x u (guardedX .toward) past) (past-other (g .columns) okX ratioX f x u past) wayX
+        back f (past-side (g .columns) okX ratioX x u d f (guardedX .toward) past) (past-other (g .columns) okX ratioX x u f past) wayX
 
     -- where both sides are crossed and the corner rule does not apply, the corner is not disabled
     uncornered : pastCorner l g x y p q d ≡ false → X / g .columns .ctb ≢ lumaPosition (g .columns) u / g .columns .ctb

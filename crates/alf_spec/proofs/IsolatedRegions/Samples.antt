@@ -25,7 +25,8 @@ use Rattle.alf_spec.specs.Isolation.{inside}
 use Rattle.alf_spec.proofs.Tests.{cond-either}
 use Rattle.alf_spec.proofs.Lists.{tabulate-same, Each, map-same}
 use Rattle.alf_spec.proofs.IsolatedRegions.Inside.{Inside, SameInside}
-use Rattle.alf_spec.proofs.IsolatedRegions.Reach.{Reach, reach-luma, reach-window, chroma-ratios, reach-chroma, SameReads}
+use Rattle.alf_spec.proofs.IsolatedRegions.Ratios.{chroma-ratios}
+use Rattle.alf_spec.proofs.IsolatedRegions.Reach.{Reach, reach-luma, reach-window, reach-chroma, SameReads}
 
 -- ---- where a sample lies in luma
 

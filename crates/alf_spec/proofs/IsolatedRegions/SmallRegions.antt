@@ -1,7 +1,8 @@
--- Two regions that can be judged at sight: one of no block, and a subpicture beside one that filters across its sides. Assumes nothing.
+-- Regions that can be judged at sight: one of no block, a subpicture beside one that filters across its sides, a block beside a virtual
+-- boundary. Assumes nothing.
 use mathlib.Core.Path.{_≡_, refl}
 use mathlib.Core.Bool.{true, false}
-use mathlib.Core.List.{[], _∷_}
+use mathlib.Core.List.{List, [], _∷_}
 use Prim.Native.Nat.{ℕ, zero, suc}
 use lib.ListN.{replicate, getD}
 use Rattle.alf_spec.specs.Input.{Layout}
@@ -24,16 +25,37 @@ unfolding inside isolated
 zeros-isolated l n = at-all _ _ (λ y row. at-all _ _ (λ x column. simp zero-at))
 
 -- 64 by 8 luma samples, two CTBs of 32, in one tile and slice
-abbrev twoSubpictures : Layout
+abbrev pub twoSubpictures : Layout
 twoSubpictures = layout (picture 64 8 5 8 0 1) [] (0 ∷ 0 ∷ []) (0 ∷ []) (0 ∷ 0 ∷ []) (0 ∷ 1 ∷ []) (0 ∷ replicate 63 1)
 
--- 01: two subpictures side by side in one tile and slice, no virtual boundary, left switch off, right on: the left area is shut, the right is not
-pub record SubpictureExample : Type 0 where
+-- 16 by 8 luma samples, one CTB, with these virtual columns; and its left block
+abbrev twoBlocks : List ℕ → Layout
+twoBlocks columns = layout (picture 16 8 5 8 0 1) columns (0 ∷ []) (0 ∷ []) (0 ∷ []) (0 ∷ []) (replicate 64 1)
+
+abbrev leftBlock : List ℕ
+leftBlock = 1 ∷ 0 ∷ []
+
+pub record SmallRegions : Type 0 where
+  -- 01: two subpictures side by side in one tile and slice, no virtual boundary, left switch off, right on: the left area is shut, the right is not
   pub left-accepted : isolationFault twoSubpictures (subpicRegion twoSubpictures 0) ≡ 0
   pub left : isolated twoSubpictures (subpicRegion twoSubpictures 0) ≡ true
   pub right-accepted : isolationFault twoSubpictures (subpicRegion twoSubpictures 1) ≡ 0
   pub right : isolated twoSubpictures (subpicRegion twoSubpictures 1) ≡ false
+  -- 01: a side step is shut on a virtual boundary
+  pub cut-accepted : isolationFault (twoBlocks (8 ∷ [])) leftBlock ≡ 0
+  pub cut : isolated (twoBlocks (8 ∷ [])) leftBlock ≡ true
+  pub uncut-accepted : isolationFault (twoBlocks []) leftBlock ≡ 0
+  pub uncut : isolated (twoBlocks []) leftBlock ≡ false
 
-pub subpicture-example : SubpictureExample
+pub small-regions : SmallRegions
 unfolding allBelow everyFrom elem tabulate ctbSize planeOf sliceOf subpicOf tileColumnOf tileRowOf tileDisables sliceDisables subpicDisables columnDisabled rowDisabled openStep columnStep rowStep diagonalStep inside staysInside isolated regionOf subpicRegion pictureSizeValid ctbSizeValid bitDepthValid chromaFormatValid layoutLengthsValid virtualListValid virtualBoundariesValid followsAt tileListValid tilesValid cornersValid slicesValid subpicturesValid regionLengthValid regionValid unless sizesFault boundariesFault isolationFault
-subpicture-example = record { left-accepted = refl; left = refl; right-accepted = refl; right = refl }
+small-regions = record {
+  left-accepted = refl;
+  left = refl;
+  right-accepted = refl;
+  right = refl;
+  cut-accepted = refl;
+  cut = refl;
+  uncut-accepted = refl;
+  uncut = refl;
+}

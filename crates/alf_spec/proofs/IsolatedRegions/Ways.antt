@@ -10,6 +10,7 @@ use Rattle.alf_spec.specs.Geometry.{Side, before, after, next, gap, Axis
 use Rattle.alf_spec.specs.Isolation.{openStep}
 use Rattle.alf_spec.proofs.Axes.{by-gt, Regular, lower, upper, ctb-of}
 use Rattle.alf_spec.proofs.IsolatedRegions.Cells.{Clear, Cell, cell-sym}
+use Rattle.alf_spec.proofs.IsolatedRegions.Ratios.{Toward}
 use Rattle.alf_spec.proofs.IsolatedRegions.Steps.{open-step}
 
 -- u and v, at most 7 apart, stand in two CTBs: e is the last position of the first
@@ -43,11 +44,6 @@ module _ (a : Axis) (ok : Regular a) where
         free = λ w. let z = clear (suc e) w .1 past in omega arith;
         first = omega (arith, ap (λ (n : ℕ). n * a .ctb) r);
       }
-
--- u lies on that side of x, or is x
-abbrev pub Toward : Side → ℕ → ℕ → Type 0
-Toward before x u = u ≤ x
-Toward after x u = x ≤ u
 
 -- the outermost position of x's CTB on that side
 abbrev pub rim : Axis → Side → ℕ → ℕ

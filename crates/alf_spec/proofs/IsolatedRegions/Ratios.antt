@@ -1,0 +1,63 @@
+-- A plane's own samples and their luma positions, over the ratio of the plane. Assumes nothing.
+use mathlib.Core.Path.{_≡_}
+use mathlib.Core.Logic.{_↔_}
+use Prim.Native.Nat.{ℕ, pred, _+_, _*_, _/_, _%_, _≤_, _<_}
+use native.Mathlib.Omega.{arith}
+use Rattle.alf_spec.specs.declared.Picture.{Picture}
+use Rattle.alf_spec.specs.Geometry.{Side, before, after, subWidth, subHeight}
+
+-- luma samples to one of the plane's own: SubWidthC and SubHeightC are 1 or 2 in every format
+pub data Ratio : ℕ → Type 0 where
+  whole : Ratio 1
+  half : Ratio 2
+
+-- the one place that says which
+pub chroma-ratios : (p : Picture) → Ratio (subWidth p) × Ratio (subHeight p)
+unfolding subWidth subHeight
+chroma-ratios p = (half, half)
+
+-- ---- a boundary at the luma position b, a multiple of 4, and the plane's own sample u
+
+pub own-le : (r : ℕ) → Ratio r → (b u : ℕ) → b ≤ u * r → b / r ≤ u
+own-le _ whole b u h = omega arith
+own-le _ half b u h = omega arith
+
+pub le-own : (r : ℕ) → Ratio r → (b u : ℕ) → b % 4 ≡ 0 → b / r ≤ u → b ≤ u * r
+le-own _ whole b u q h = omega arith
+le-own _ half b u q h = omega arith
+
+pub own-lt : (r : ℕ) → Ratio r → (b u : ℕ) → b % 4 ≡ 0 → u * r < b → u < b / r
+own-lt _ whole b u q h = omega arith
+own-lt _ half b u q h = omega arith
+
+pub lt-own : (r : ℕ) → Ratio r → (b u : ℕ) → u < b / r → u * r < b
+lt-own _ whole b u h = omega arith
+lt-own _ half b u h = omega arith
+
+pub boundary : (r : ℕ) → Ratio r → (b : ℕ) → b % 4 ≡ 0 → b / r * r ≡ b
+boundary _ whole b q = omega arith
+boundary _ half b q = omega arith
+
+-- ---- the last of the plane's own samples in a CTB of size s that begins at b
+
+pub last-own : (r : ℕ) → Ratio r → (b s u : ℕ) → b % 4 ≡ 0 → s % 8 ≡ 0 → 8 ≤ s → (pred (b / r + s / r) < u) ↔ (b + s ≤ u * r)
+last-own _ whole b s u q k h = (λ l. omega arith, λ l. omega arith)
+last-own _ half b s u q k h = (λ l. omega arith, λ l. omega arith)
+
+pub last-in : (r : ℕ) → Ratio r → (b s x : ℕ) → b % 4 ≡ 0 → s % 8 ≡ 0 → 8 ≤ s → x * r < b + s
+    → (x * r ≤ pred (b / r + s / r) * r) × (pred (b / r + s / r) * r ≤ pred (b + s))
+last-in _ whole b s x q k h l = omega arith
+last-in _ half b s x q k h l = omega arith
+
+-- ---- sides
+
+-- u lies on that side of x, or is x
+abbrev pub Toward : Side → ℕ → ℕ → Type 0
+Toward before x u = u ≤ x
+Toward after x u = x ≤ u
+
+pub toward-luma : (r : ℕ) → Ratio r → (d : Side) (v w : ℕ) → Toward d v w → Toward d (v * r) (w * r)
+toward-luma _ whole before v w t = omega arith
+toward-luma _ whole after v w t = omega arith
+toward-luma _ half before v w t = omega arith
+toward-luma _ half after v w t = omega arith

@@ -1,0 +1,123 @@
+-- The isolation claim at work: two pictures that differ outside a subpicture whose switch is off, in samples, CTB parameters and list. The
+-- premises hold, the luma filter changes samples inside, and the two outputs differ outside. Assumes nothing.
+use mathlib.Core.Path.{_≡_, refl}
+use mathlib.Core.Bool.{Bool, true, false≢true}
+use mathlib.Core.List.{List, [], _∷_, map, _++_}
+use Prim.Native.Nat.{ℕ, zero, suc, _+_, _*_, _<_}
+use native.Mathlib.Nat.{mul-one}
+use lib.IntN.{pos}
+use lib.Dec.{eqb}
+use lib.ListN.{getD, replicate}
+use borrow.Author.Tests.{eqb-true, ltb-true}
+use Rattle.alf_spec.specs.Lists.{implies, allBelow, everyFrom, elem, sumBelow, sumBelowℤ, tabulate, painted}
+use Rattle.alf_spec.specs.Arithmetic.{clip3, distance, rounded, clipSample, clippedChange, tap, tapSum, filtered}
+use Rattle.alf_spec.specs.Input.{luma, Input}
+use Rattle.alf_spec.specs.Geometry.{ctbSize, planeOf, lumaPlane, indexOf, ctbAt, address, lineRule, bottomDistance}
+use Rattle.alf_spec.specs.Boundary.{sliceOf, subpicOf, tileColumnOf, tileRowOf, tileDisables, sliceDisables, subpicDisables, columnDisabled, rowDisabled, cornerDisabled, find, lineClip, virtualClip, sideClip, clipPosition}
+use Rattle.alf_spec.specs.Padding.{columnClip, rowClip, paddedRow, pastCorner, paddedColumn, read}
+use Rattle.alf_spec.specs.Parameters.{ctbParam, sliceParam, bankNumber, fixedCoeff}
+use Rattle.alf_spec.specs.Classes.{classWindow, filtH, filtV, filtD0, filtD1, windowRows, windowSum, windowSums, larger, diagonal, mainGradient, otherGradient, strength, activity, transposeIdx, filtIdx, classOfSums, classOf, blockClass}
+use Rattle.alf_spec.specs.Luma.{lumaF, lumaC, tapOrder, lumaRows, lumaPlus, lumaMinus, lumaWith, lumaSample}
+use Rattle.alf_spec.specs.Process.{lumaOn, isFiltered, atIndex, filteredPlane, result}
+use Rattle.alf_spec.specs.Faults.{pictureSizeValid, ctbSizeValid, bitDepthValid, chromaFormatValid, componentValid, layoutLengthsValid, filterLengthsValid, fixedLengthsValid, lengthsValid, apartAt, virtualListValid, virtualBoundariesValid, followsAt, tileListValid, tilesValid, cornerAt, cornersInRow, cornersValid, slicesValid, subpicturesValid, sliceParamsValid, ctbRangesValid, ctbChromaZero, ctbParamsValidAt, parametersValid, coeffValid, clipValid, isClip, bankNumberValid, bankValid, fixedValid, samplesValid, addressesValid, unless, sizesFault, boundariesFault, tablesFault, fault}
+use Rattle.alf_spec.specs.Isolation.{inside, regionOf, subpicRegion, outputInside}
+use Rattle.alf_spec.proofs.Tests.{both, implied, all-at}
+use Rattle.alf_spec.proofs.Examples.{repeated}
+use Rattle.alf_spec.proofs.WorkedExamples.{coefficients}
+use Rattle.alf_spec.proofs.IsolatedRegions.Inside.{Inside}
+use Rattle.alf_spec.proofs.IsolatedRegions.SmallRegions.{twoSubpictures, small-regions}
+use Rattle.alf_spec.proofs.TwoRuns.{TwoRuns, isolation}
+
+-- the left subpicture, whose switch is off
+abbrev region : List ℕ
+region = subpicRegion twoSubpictures 0
+
+-- 8 rows: a checkerboard of 0 and 8 in the left subpicture, one value in the right one
+abbrev picture : ℕ → List ℕ
+picture right = repeated 4 (repeated 16 (0 ∷ 8 ∷ []) ++ replicate 32 right ++ repeated 16 (8 ∷ 0 ∷ []) ++ replicate 32 right)
+
+-- the left CTB is filtered by fixed set 0; of the right one flag and set are given
+abbrev input : ℕ → ℕ → ℕ → List ℕ → Input
+input right flag set list = record {
+  layout = twoSubpictures;
+  luma = picture right;
+  chroma = [];
+  sliceParams = replicate 11 0;
+  bank = replicate 6016 (pos 0);
+  ctbParams = 1 ∷ 0 ∷ 0 ∷ 0 ∷ 0 ∷ 0 ∷ 0 ∷ 0 ∷ flag ∷ 0 ∷ 0 ∷ set ∷ 0 ∷ 0 ∷ 0 ∷ 0 ∷ [];
+  ctbList = list;
+  fixedFilters = repeated 64 coefficients;
+  fixedMap = replicate 400 0;
+  outputLength = 512;
+}
+
+abbrev first : Input
+first = input 0 0 0 (0 ∷ [])
+
+-- other samples outside, another filter for the CTB outside, which is listed here, and the CTB inside is listed twice
+abbrev second : Input
+second = input 100 1 7 (1 ∷ 0 ∷ 0 ∷ [])
+
+accepts : (fault luma first ≡ 0) × (fault luma second ≡ 0)
+unfolding allBelow everyFrom ctbSize planeOf sliceOf ctbParam sliceParam pictureSizeValid ctbSizeValid bitDepthValid chromaFormatValid componentValid layoutLengthsValid filterLengthsValid fixedLengthsValid lengthsValid apartAt virtualListValid virtualBoundariesValid followsAt tileListValid tilesValid cornerAt cornersInRow cornersValid slicesValid subpicturesValid sliceParamsValid ctbRangesValid ctbChromaZero ctbParamsValidAt parametersValid coeffValid clipValid isClip bankNumberValid bankValid fixedValid samplesValid addressesValid unless sizesFault boundariesFault tablesFault fault
+accepts = (refl, refl)
+
+-- what a computed test of every sample inside says of one
+module _ (test : ℕ → ℕ → Bool) (holds : allBelow 8 (λ y. allBelow 64 (λ x. implies (inside twoSubpictures region x y) (test x y))) ≡ true) where
+  at : (x y : ℕ) → Inside twoSubpictures region (lumaPlane twoSubpictures) x y → test x y ≡ true
+  unfolding planeOf
+  at x y s =
+      let position : inside twoSubpictures region x y ≡ true = simp mul-one at (s .position) in
+      implied (inside twoSubpictures region x y) (test x y) (all-at 64 _ (all-at 8 _ holds y (s .row)) x (s .column)) position
+
+module _ (x y : ℕ) (s : Inside twoSubpictures region (lumaPlane twoSubpictures) x y) where
+  same-sample : getD (picture 0) (indexOf (lumaPlane twoSubpictures) x y) 0 ≡ getD (picture 100) (indexOf (lumaPlane twoSubpictures) x y) 0
+  unfolding allBelow tabulate ctbSize planeOf subpicOf inside regionOf subpicRegion
+  same-sample = eqb-true _ _ (at (λ x y. eqb (getD (picture 0) (y * 64 + x) 0) (getD (picture 100) (y * 64 + x) 0)) refl x y s)
+
+  -- every sample inside lies in the CTB at address 0
+  left : address twoSubpictures (ctbAt (lumaPlane twoSubpictures) x y) ≡ 0
+  unfolding allBelow tabulate ctbSize planeOf subpicOf inside regionOf subpicRegion
+  left = eqb-true _ 0 (at (λ x y. eqb (address twoSubpictures (ctbAt (lumaPlane twoSubpictures) x y)) 0) refl x y s)
+
+  same-param : (n : ℕ) → n < 8 → ctbParam first (ctbAt (lumaPlane twoSubpictures) x y) n ≡ ctbParam second (ctbAt (lumaPlane twoSubpictures) x y) n
+  unfolding ctbParam allBelow
+  same-param n h =
+      rw left (eqb-true _ _ (all-at 8 (λ n. eqb (getD (first .ctbParams) (8 * 0 + n) 0) (getD (second .ctbParams) (8 * 0 + n) 0)) refl n h))
+
+  same-listing : elem (address twoSubpictures (ctbAt (lumaPlane twoSubpictures) x y)) (0 ∷ [])
+      ≡ elem (address twoSubpictures (ctbAt (lumaPlane twoSubpictures) x y)) (1 ∷ 0 ∷ 0 ∷ [])
+  unfolding elem
+  same-listing = rw left
+
+pub runs : TwoRuns luma region first second
+runs = record {
+  firstAccepted = accepts .0;
+  secondAccepted = accepts .1;
+  regionIsolated = small-regions .left;
+  layout = refl;
+  sliceParams = λ _. refl;
+  bank = λ _. refl;
+  fixedFilters = λ _. refl;
+  fixedMap = λ _. refl;
+  luma = λ _. same-sample;
+  chroma = λ e. absurd (false≢true e);
+  ctbParams = λ _. same-param;
+  listed = λ _. same-listing;
+}
+
+-- what the luma filter makes of the two
+pub record RewrittenOutside : Type 0 where
+  -- it works inside, on samples 0 and 8
+  pub filtered-inside : getD (result luma first) 0 0 ∷ getD (result luma first) 1 0 ∷ [] ≡ 4 ∷ 4 ∷ []
+  -- and what was rewritten has an effect outside
+  pub differ-outside : getD (result luma first) 32 0 ∷ getD (result luma second) 32 0 ∷ [] ≡ 0 ∷ 100 ∷ []
+
+pub rewritten-outside : RewrittenOutside
+unfolding everyFrom allBelow elem sumBelow sumBelowℤ tabulate painted clip3 distance rounded clipSample clippedChange tap tapSum filtered ctbSize planeOf lineRule bottomDistance sliceOf subpicOf tileColumnOf tileRowOf tileDisables sliceDisables subpicDisables columnDisabled rowDisabled cornerDisabled find lineClip virtualClip sideClip clipPosition columnClip rowClip paddedRow pastCorner paddedColumn read ctbParam sliceParam bankNumber fixedCoeff classWindow filtH filtV filtD0 filtD1 windowRows windowSum windowSums larger diagonal mainGradient otherGradient strength activity transposeIdx filtIdx classOfSums classOf blockClass lumaF lumaC tapOrder lumaRows lumaPlus lumaMinus lumaWith lumaSample lumaOn isFiltered atIndex filteredPlane result
+rewritten-outside = record { filtered-inside = refl; differ-outside = refl }
+
+-- the claim, at the sample beside the boundary: row 0, column 31
+pub beside-boundary : getD (result luma first) 31 0 ≡ getD (result luma second) 31 0
+unfolding tabulate ctbSize planeOf subpicOf inside regionOf subpicRegion outputInside
+beside-boundary = isolation luma region first second runs 31 (ltb-true 31 512 refl) refl
