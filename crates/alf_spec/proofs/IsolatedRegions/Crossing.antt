@@ -17,7 +17,7 @@ use Rattle.alf_spec.proofs.Axes.{Regular, regular-columns, regular-rows
 use Rattle.alf_spec.proofs.IsolatedRegions.Cells.{Cell, Closed, walk}
 use Rattle.alf_spec.proofs.IsolatedRegions.Steps.{open-step, next-ctb}
 use Rattle.alf_spec.proofs.IsolatedRegions.Held.{Held, across, down, diagonal}
-use Rattle.alf_spec.proofs.IsolatedRegions.Ways.{Way, here, over}
+use Rattle.alf_spec.proofs.IsolatedRegions.Ways.{Over, Way, here, over}
 
 -- a step within a cell is open, both ways
 inner : (a : Axis) (disabled disabled′ : Side → Bool) (b : ℕ) → suc b < a .size → ¬ List·Memᴰ (suc b) (a .virtualBoundaries)
@@ -28,7 +28,7 @@ inner a disabled disabled′ b hi free q = (
 )
 
 -- the CTB of a luma sample
-abbrev pub ctbHolding : Layout → ℕ → ℕ → Ctb
+abbrev ctbHolding : Layout → ℕ → ℕ → Ctb
 ctbHolding l x y = record { column = x / ctbSize (l .picture); row = y / ctbSize (l .picture) }
 
 module _ (l : Layout) (columnRatio rowRatio x y : ℕ) where
@@ -51,10 +51,10 @@ not-corner after before s f = refl
 not-corner after after s f = simp (f refl)
 
 module _ (l : Layout) (ok : Accepted l) (columnRatio rowRatio : ℕ) where
-  abbrev pub columns : Axis
+  abbrev columns : Axis
   columns = planeOf l columnRatio rowRatio .columns
 
-  abbrev pub rows : Axis
+  abbrev rows : Axis
   rows = planeOf l columnRatio rowRatio .rows
 
   okX : Regular columns
@@ -109,21 +109,23 @@ module _ (l : Layout) (ok : Accepted l) (columnRatio rowRatio : ℕ) where
       unfolding planeOf
       carry c k F = subst₂ (λ (i j : ℕ). F (record { column = i; row = j })) (c .ctb) (k .ctb)
 
-      -- the one claim about two axes: cells, a side, or a corner
+      -- so a step over its side is open at each
+      stepX : {m n : ℕ} → Over columns (columnDisabled l (ctbHolding l x y)) d x u m → Cell columns x m → Cell rows y n → columnStep l m n d ≡ true
+      stepX {m} {n} o c k = column-step l columnRatio rowRatio m n d (carry c k (λ ctb. openStep columns (columnDisabled l ctb) d m ≡ true) (o .step))
+
+      stepY : {m n : ℕ} → Over rows (rowDisabled l (ctbHolding l x y)) e y v n → Cell columns x m → Cell rows y n → rowStep l m n e ≡ true
+      stepY {m} {n} w c k = row-step l columnRatio rowRatio m n e (carry c k (λ ctb. openStep rows (rowDisabled l ctb) e n ≡ true) (w .step))
+
+      -- the one claim about two axes: first along cells, then over a side or a corner, if any, then along cells again
       pub arrive : Way columns (columnDisabled l (ctbHolding l x y)) d x u → Way rows (rowDisabled l (ctbHolding l x y)) e y v
           → (x / columns .ctb ≢ u / columns .ctb → y / rows .ctb ≢ v / rows .ctb → d ≡ e → cornerDisabled l (ctbHolding l x y) d ≡ false)
           → Held l region u v
       arrive (here c) (here k) f = walkY k (walkX c r)
-      arrive (over m _ c _ _ o c′ _) (here k) f =
-          walkX c′ (across l region iso m v (walkY k (walkX c r)) d
-          (column-step l columnRatio rowRatio m v d (carry c k (λ ctb. openStep columns (columnDisabled l ctb) d m ≡ true) o)))
-      arrive (here c) (over n _ k _ _ o k′ _) f =
-          walkY k′ (down l region iso u n (walkY k (walkX c r)) e
-          (row-step l columnRatio rowRatio u n e (carry c k (λ ctb. openStep rows (rowDisabled l ctb) e n ≡ true) o)))
-      arrive (over m _ c lo hi o c′ ne) (over n _ k lo′ hi′ o′ k′ ne′) f =
-          walkY k′ (walkX c′ (diagonal l region iso m n (walkY k (walkX c r)) d e (diagonal-step d e m n
-          (column-step l columnRatio rowRatio m n d (carry c k (λ ctb. openStep columns (columnDisabled l ctb) d m ≡ true) o))
-          (row-step l columnRatio rowRatio m n e (carry c k (λ ctb. openStep rows (rowDisabled l ctb) e n ≡ true) o′))
-          (λ q. same-slice d e m n q
-          lo hi (λ w. ne (c .ctb ∙ w ∙ c′ .ctb)) lo′ hi′ (λ w. ne′ (k .ctb ∙ w ∙ k′ .ctb))
-          (carry c k (λ ctb. cornerDisabled l ctb d ≡ false) (f ne ne′ q))))))
+      arrive (over m o) (here k) f = walkX (o .outer) (across l region iso m v (walkY k (walkX (o .inner) r)) d (stepX o (o .inner) k))
+      arrive (here c) (over n w) f = walkY (w .outer) (down l region iso u n (walkY (w .inner) (walkX c r)) e (stepY w c (w .inner)))
+      arrive (over m o) (over n w) f =
+          walkY (w .outer) (walkX (o .outer) (diagonal l region iso m n (walkY (w .inner) (walkX (o .inner) r)) d e
+          (diagonal-step d e m n (stepX o (o .inner) (w .inner)) (stepY w (o .inner) (w .inner)) (λ q. same-slice d e m n q
+          (o .low) (o .high) (λ s. o .other (o .inner .ctb ∙ s ∙ o .outer .ctb))
+          (w .low) (w .high) (λ s. w .other (w .inner .ctb ∙ s ∙ w .outer .ctb))
+          (carry (o .inner) (w .inner) (λ ctb. cornerDisabled l ctb d ≡ false) (f (o .other) (w .other) q))))))

@@ -99,9 +99,9 @@ module _ (l : Layout) (ok : Accepted l) (region : List ℕ) (iso : isolated l re
         → Held l region (lumaPosition (g .columns) (ctbEnd (g .columns) f x)) (lumaPosition (g .rows) v)
     unfolding planeOf
     back f s ne (here c) = absurd (ne (c .ctb))
-    back f s ne (over m w c _ _ _ _ _) =
-        let c′ = end-cell (g .columns) okX ratioX d x m w c in
-        rw (← s) (arrive l ok columnRatio rowRatio region iso d e X Y _ _ (to-luma x y i) (here c′) wayY (λ n _ _. absurd (n (c′ .ctb))))
+    back f s ne (over m o) =
+        let c = end-cell (g .columns) okX ratioX d x m (o .atRim) (o .inner) in
+        rw (← s) (arrive l ok columnRatio rowRatio region iso d e X Y _ _ (to-luma x y i) (here c) wayY (λ n _ _. absurd (n (c .ctb))))
 
     moved : (f : Side) → pastCorner l g x y p q f ≡ true
         → Held l region (lumaPosition (g .columns) (ctbEnd (g .columns) f x)) (lumaPosition (g .rows) v)

@@ -59,23 +59,46 @@ pub record Guarded (a : Axis) (disabled : Side → Bool) (d : Side) (x u : ℕ) 
   pub clear : Clear a x u
   pub enabled : x / a .ctb ≢ u / a .ctb → disabled d ≡ false
 
+-- over one side of x's CTB: from x to the CTB's outermost position m, one open step, and on to u
+pub record Over (a : Axis) (disabled : Side → Bool) (d : Side) (x u m : ℕ) : Type 0 where
+  pub atRim : rim a d x ≡ m
+  pub inner : Cell a x m
+  pub low : 0 < gap d m
+  pub high : gap d m < a .size
+  pub step : openStep a disabled d m ≡ true
+  pub outer : Cell a (next d m) u
+  pub other : x / a .ctb ≢ u / a .ctb
+
 pub data Way (a : Axis) (disabled : Side → Bool) (d : Side) (x u : ℕ) : Type 0 where
   here : Cell a x u → Way a disabled d x u
-  over : (m : ℕ) → rim a d x ≡ m → Cell a x m → 0 < gap d m → gap d m < a .size → openStep a disabled d m ≡ true → Cell a (next d m) u
-      → x / a .ctb ≢ u / a .ctb → Way a disabled d x u
+  over : (m : ℕ) → Over a disabled d x u m → Way a disabled d x u
 
 module _ (a : Axis) (ok : Regular a) (disabled : Side → Bool) where
   cross : (d : Side) (x u : ℕ) → x < a .size → Guarded a disabled d x u → x / a .ctb ≢ u / a .ctb → Way a disabled d x u
   cross before x u inX p ne =
       let e = pred (ctbStart a u + a .ctb) in
       let s = split a ok u x e (omega (arith, ok .big)) (p .toward) (p .low) inX (λ b w. (p .clear b w .1, p .clear b w .0)) (λ q. ne (sym q)) in
-      over (suc e) (s .first) (cell-sym (s .right)) (omega arith) (s .right .inU)
-      (open-step a disabled before (suc e) (omega arith) (s .right .inU) (s .free) (λ _. p .enabled ne)) (cell-sym (s .left)) ne
+      over (suc e) (record {
+        atRim = s .first;
+        inner = cell-sym (s .right);
+        low = omega arith;
+        high = s .right .inU;
+        step = open-step a disabled before (suc e) (omega arith) (s .right .inU) (s .free) (λ _. p .enabled ne);
+        outer = cell-sym (s .left);
+        other = ne;
+      })
   cross after x u inX p ne =
       let e = pred (ctbStart a x + a .ctb) in
       let s = split a ok x u e (omega (arith, ok .big)) (p .toward) (p .high) (p .inPicture) (p .clear) ne in
-      over e refl (s .left) (omega arith) (s .right .inU)
-      (open-step a disabled after e (omega arith) (s .right .inU) (s .free) (λ _. p .enabled ne)) (s .right) ne
+      over e (record {
+        atRim = refl;
+        inner = s .left;
+        low = omega arith;
+        high = s .right .inU;
+        step = open-step a disabled after e (omega arith) (s .right .inU) (s .free) (λ _. p .enabled ne);
+        outer = s .right;
+        other = ne;
+      })
 
   pub way : (d : Side) (x u : ℕ) → x < a .size → Guarded a disabled d x u → Way a disabled d x u
   way d x u inX p = by-cases (ℕ-discrete (x / a .ctb) (u / a .ctb))
