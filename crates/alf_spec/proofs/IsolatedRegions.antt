@@ -16,5 +16,6 @@ pub mod Samples
 pub mod SmallRegions
 pub mod Steps
 pub mod SwitchedOff
+pub mod TapPositions
 pub mod Ways
 pub mod WholeCtbs

@@ -18,11 +18,11 @@ use Rattle.alf_spec.specs.Faults.{componentValid, fault}
 use Rattle.alf_spec.specs.Isolation.{isolated, outputInside}
 use Rattle.alf_spec.proofs.Lists.{tabulate-at}
 use Rattle.alf_spec.proofs.Accepted.{accepted, component-of, luma-length, chroma-length}
-use Rattle.alf_spec.proofs.IsolatedRegions.Inside.{Inside, SameInside}
+use Rattle.alf_spec.proofs.IsolatedRegions.Inside.{Inside, SameInside, luma-ctb, luma-inside}
 use Rattle.alf_spec.proofs.IsolatedRegions.Ratios.{whole, chroma-ratios}
 use Rattle.alf_spec.proofs.IsolatedRegions.Reach.{SameReads}
 use Rattle.alf_spec.proofs.IsolatedRegions.Reads.{same-reads}
-use Rattle.alf_spec.proofs.IsolatedRegions.Samples.{luma-ctb, luma-inside, same-class, atLayout, SameFilters, same-luma, same-chroma, same-cross}
+use Rattle.alf_spec.proofs.IsolatedRegions.Samples.{same-class, atLayout, SameFilters, same-luma, same-chroma, same-cross}
 use Rattle.alf_spec.proofs.IsolatedRegions.Results.{index-inside, SameOutput, same-output}
 
 -- two runs of one operation, and a region. "Of the things that demand 3 wants alike, only those count that the operation is lent, its input

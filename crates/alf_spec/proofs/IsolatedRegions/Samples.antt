@@ -1,14 +1,9 @@
 -- Equal reads give equal classes and, where the filters of the sample's CTB are the same, equal filtered samples. Assumes nothing.
 use mathlib.Core.Path.{_≡_, _∙_, ap}
-use mathlib.Core.Bool.{Bool, _&&_}
 use mathlib.Core.List.{List, map}
-use Prim.Native.Nat.{ℕ, zero, suc, _+_, _-_, _*_, _/_, _%_, _≤_, _<_}
-use native.Mathlib.Nat.{mul-one, mul-le-mul-right, div-zero, div-mul-le-self, not-suc-le-zero}
+use Prim.Native.Nat.{ℕ, _+_, _-_, _*_, _/_, _%_, _≤_, _<_}
 use native.Mathlib.Omega.{arith}
 use lib.IntN.{ℤ}
-use Rattle.alf_spec.specs.declared.LumaRows.{LumaRows}
-use Rattle.alf_spec.specs.declared.ChromaRows.{ChromaRows}
-use Rattle.alf_spec.specs.declared.CrossRows.{CrossRows}
 use Rattle.alf_spec.specs.declared.Ctb.{Ctb}
 use Rattle.alf_spec.specs.declared.Class.{Class}
 use Rattle.alf_spec.specs.Lists.{elem}
@@ -18,95 +13,15 @@ use Rattle.alf_spec.specs.Geometry.{Plane, subWidth, subHeight, planeOf,
 use Rattle.alf_spec.specs.Padding.{read}
 use Rattle.alf_spec.specs.Parameters.{ctbParam, sliceParam, bankNumber, fixedCoeff}
 use Rattle.alf_spec.specs.Classes.{classWindow, classOf, blockClass}
-use Rattle.alf_spec.specs.Luma.{lumaF, lumaC, lumaRows, lumaPlus, lumaMinus, lumaRowsAt, lumaWith, lumaSample}
-use Rattle.alf_spec.specs.Chroma.{chromaRows, chromaPlus, chromaMinus, chromaWith, chromaSample}
-use Rattle.alf_spec.specs.CrossComponent.{crossRows, crossTaps, crossSum, corrected, crossWith, crossSample}
+use Rattle.alf_spec.specs.Luma.{lumaF, lumaC, lumaPlus, lumaMinus, lumaRowsAt, lumaWith, lumaSample}
+use Rattle.alf_spec.specs.Chroma.{chromaPlus, chromaMinus, chromaWith, chromaSample}
+use Rattle.alf_spec.specs.CrossComponent.{crossTaps, crossSum, corrected, crossWith, crossSample}
 use Rattle.alf_spec.specs.Isolation.{inside}
-use Rattle.alf_spec.proofs.Tests.{cond-either}
 use Rattle.alf_spec.proofs.Lists.{tabulate-same, Each, map-same}
-use Rattle.alf_spec.proofs.IsolatedRegions.Inside.{Inside, SameInside}
+use Rattle.alf_spec.proofs.IsolatedRegions.Inside.{Inside, SameInside, luma-inside}
+use Rattle.alf_spec.proofs.IsolatedRegions.TapPositions.{Around, here, luma-offsets, luma-taps, chroma-offsets, chroma-taps, cross-offsets, cross-taps}
 use Rattle.alf_spec.proofs.IsolatedRegions.Ratios.{chroma-ratios}
 use Rattle.alf_spec.proofs.IsolatedRegions.Reach.{Reach, reach-luma, reach-window, reach-chroma, SameReads}
-
--- ---- where a sample lies in luma
-
-below : (size ratio x : ℕ) → x < size / ratio → x * ratio < size / 1
-below size zero x h = absurd (not-suc-le-zero (rw div-zero at h))
-below size (suc ratio) x h = omega (arith, mul-le-mul-right (suc ratio) h, div-mul-le-self size (suc ratio))
-
-module _ (l : Layout) (columnRatio rowRatio : ℕ) where
-  abbrev plane : Plane
-  plane = planeOf l columnRatio rowRatio
-
-  -- the luma sample at a sample's luma position is of the same CTB
-  pub luma-ctb : (x y : ℕ) → ctbAt (lumaPlane l) (lumaPosition (plane .columns) x) (lumaPosition (plane .rows) y) ≡ ctbAt plane x y
-  unfolding planeOf
-  luma-ctb x y = simp mul-one
-
-  -- and lies inside where the sample does
-  pub luma-inside : (region : List ℕ) (x y : ℕ) → Inside l region plane x y
-      → Inside l region (lumaPlane l) (lumaPosition (plane .columns) x) (lumaPosition (plane .rows) y)
-  unfolding planeOf
-  luma-inside region x y s = record {
-    column = below (l .picture .width) columnRatio x (s .column);
-    row = below (l .picture .height) rowRatio y (s .row);
-    position = simp mul-one (s .position);
-  }
-
--- ---- how far the taps read
-
--- at most n from (x, y) along each axis
-pub record Around (n x y : ℕ) (p : ℕ × ℕ) : Type 0 where
-  pub column : distance x (p .0) ≤ n
-  pub row : distance y (p .1) ≤ n
-
--- Table 45: offsets up to 3
-abbrev LumaOffsets : LumaRows → Type 0
-LumaOffsets r = (r .y1 ≤ 3) × (r .y2 ≤ 3) × (r .y3 ≤ 3)
-
-luma-offsets : (line : Bool) (d : ℕ) → LumaOffsets (lumaRows line d)
-unfolding lumaRows
-luma-offsets line d =
-    cond-either LumaOffsets (line && _) _ _ (omega arith)
-    (cond-either LumaOffsets (line && _) _ _ (omega arith)
-    (cond-either LumaOffsets (line && _) _ _ (omega arith) (omega arith)))
-
-luma-taps : (x y : ℕ) (r : LumaRows) → LumaOffsets r → Each (Around 3 x y) (lumaPlus x y r) × Each (Around 3 x y) (lumaMinus x y r)
-unfolding lumaPlus lumaMinus distance
-luma-taps x y r h = (omega arith, omega arith)
-
--- Table 46: up to 2
-abbrev ChromaOffsets : ChromaRows → Type 0
-ChromaOffsets r = (r .y1 ≤ 2) × (r .y2 ≤ 2)
-
-chroma-offsets : (line : Bool) (d : ℕ) → ChromaOffsets (chromaRows line d)
-unfolding chromaRows
-chroma-offsets line d =
-    cond-either ChromaOffsets (line && _) _ _ (omega arith)
-    (cond-either ChromaOffsets (line && _) _ _ (omega arith) (omega arith))
-
-chroma-taps : (x y : ℕ) (r : ChromaRows) → ChromaOffsets r → Each (Around 2 x y) (chromaPlus x y r) × Each (Around 2 x y) (chromaMinus x y r)
-unfolding chromaPlus chromaMinus distance
-chroma-taps x y r h = (omega arith, omega arith)
-
--- Table 47: up to 2, of which 3 is enough, since they are luma rows
-abbrev CrossOffsets : CrossRows → Type 0
-CrossOffsets r = (r .y1 ≤ 3) × (r .y2 ≤ 3)
-
-cross-offsets : (line : Bool) (d : ℕ) → CrossOffsets (crossRows line d)
-unfolding crossRows
-cross-offsets line d =
-    cond-either CrossOffsets (line && _) _ _ (omega arith)
-    (cond-either CrossOffsets (line && _) _ _ (omega arith) (omega arith))
-
-cross-taps : (x y : ℕ) (r : CrossRows) → CrossOffsets r → Each (Around 3 x y) (crossTaps x y r)
-unfolding crossTaps distance
-cross-taps x y r h = omega arith
-
--- the sample itself is at distance 0
-here : (n x y : ℕ) → Around n x y (x, y)
-unfolding distance
-here n x y = omega arith
 
 -- ---- reads, windows and classes
 

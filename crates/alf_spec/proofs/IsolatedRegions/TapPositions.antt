@@ -1,0 +1,66 @@
+-- How far from a sample the taps read, by the tables for rows at the line. Assumes nothing.
+use mathlib.Core.Bool.{Bool, _&&_}
+use Prim.Native.Nat.{ℕ, _≤_}
+use native.Mathlib.Omega.{arith}
+use Rattle.alf_spec.specs.declared.LumaRows.{LumaRows}
+use Rattle.alf_spec.specs.declared.ChromaRows.{ChromaRows}
+use Rattle.alf_spec.specs.declared.CrossRows.{CrossRows}
+use Rattle.alf_spec.specs.Arithmetic.{distance}
+use Rattle.alf_spec.specs.Luma.{lumaRows, lumaPlus, lumaMinus}
+use Rattle.alf_spec.specs.Chroma.{chromaRows, chromaPlus, chromaMinus}
+use Rattle.alf_spec.specs.CrossComponent.{crossRows, crossTaps}
+use Rattle.alf_spec.proofs.Tests.{cond-either}
+use Rattle.alf_spec.proofs.Lists.{Each}
+
+-- at most n from (x, y) along each axis
+pub record Around (n x y : ℕ) (p : ℕ × ℕ) : Type 0 where
+  pub column : distance x (p .0) ≤ n
+  pub row : distance y (p .1) ≤ n
+
+-- Table 45: offsets up to 3
+abbrev pub LumaOffsets : LumaRows → Type 0
+LumaOffsets r = (r .y1 ≤ 3) × (r .y2 ≤ 3) × (r .y3 ≤ 3)
+
+pub luma-offsets : (line : Bool) (d : ℕ) → LumaOffsets (lumaRows line d)
+unfolding lumaRows
+luma-offsets line d =
+    cond-either LumaOffsets (line && _) _ _ (omega arith)
+    (cond-either LumaOffsets (line && _) _ _ (omega arith)
+    (cond-either LumaOffsets (line && _) _ _ (omega arith) (omega arith)))
+
+pub luma-taps : (x y : ℕ) (r : LumaRows) → LumaOffsets r → Each (Around 3 x y) (lumaPlus x y r) × Each (Around 3 x y) (lumaMinus x y r)
+unfolding lumaPlus lumaMinus distance
+luma-taps x y r h = (omega arith, omega arith)
+
+-- Table 46: up to 2
+abbrev pub ChromaOffsets : ChromaRows → Type 0
+ChromaOffsets r = (r .y1 ≤ 2) × (r .y2 ≤ 2)
+
+pub chroma-offsets : (line : Bool) (d : ℕ) → ChromaOffsets (chromaRows line d)
+unfolding chromaRows
+chroma-offsets line d =
+    cond-either ChromaOffsets (line && _) _ _ (omega arith)
+    (cond-either ChromaOffsets (line && _) _ _ (omega arith) (omega arith))
+
+pub chroma-taps : (x y : ℕ) (r : ChromaRows) → ChromaOffsets r → Each (Around 2 x y) (chromaPlus x y r) × Each (Around 2 x y) (chromaMinus x y r)
+unfolding chromaPlus chromaMinus distance
+chroma-taps x y r h = (omega arith, omega arith)
+
+-- Table 47: up to 2, of which 3 is enough, since they are luma rows
+abbrev pub CrossOffsets : CrossRows → Type 0
+CrossOffsets r = (r .y1 ≤ 3) × (r .y2 ≤ 3)
+
+pub cross-offsets : (line : Bool) (d : ℕ) → CrossOffsets (crossRows line d)
+unfolding crossRows
+cross-offsets line d =
+    cond-either CrossOffsets (line && _) _ _ (omega arith)
+    (cond-either CrossOffsets (line && _) _ _ (omega arith) (omega arith))
+
+pub cross-taps : (x y : ℕ) (r : CrossRows) → CrossOffsets r → Each (Around 3 x y) (crossTaps x y r)
+unfolding crossTaps distance
+cross-taps x y r h = omega arith
+
+-- the sample itself is at distance 0
+pub here : (n x y : ℕ) → Around n x y (x, y)
+unfolding distance
+here n x y = omega arith
