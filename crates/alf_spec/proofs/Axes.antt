@@ -1,11 +1,11 @@
 -- One axis of an accepted picture: its size, CTBs and virtual boundaries are multiples of 8; and the CTB of a position on it. Assumes nothing.
-use mathlib.Core.Path.{_≡_}
-use mathlib.Core.Logic.{by-cases}
+use mathlib.Core.Path.{_≡_, sym}
+use mathlib.Core.Logic.{_≢_, by-cases}
 use mathlib.Core.Bool.{Bool, true, false}
 use mathlib.Core.List.{List, List·Memᴰ}
-use Prim.Native.Nat.{ℕ, _+_, _-_, _*_, _/_, _%_, _^_, _≤_, _<_}
+use Prim.Native.Nat.{ℕ, suc, _+_, _-_, _*_, _/_, _%_, _^_, _≤_, _<_}
 use native.Mathlib.Nat.{div-mul-le-self, lt-div-mul-add, div-eq-of-lt-le, div-add-mod'}
-use native.Mathlib.Decide.{decLe, ℕ-discrete}
+use native.Mathlib.Decide.{ℕ-discrete}
 use native.Mathlib.Omega.{arith}
 use lib.Dec.{eqb, leb}
 use lib.ListN.{length}
@@ -18,9 +18,8 @@ use Rattle.alf_spec.specs.Faults.{sizeValid, pictureSizeValid, ctbSizeVa
 use Rattle.alf_spec.proofs.Tests.{both, every-mem}
 use Rattle.alf_spec.proofs.Accepted.{Accepted}
 
--- a ≤ b, if it follows from its failure
-pub by-gt : {a b : ℕ} → (b < a → a ≤ b) → a ≤ b
-by-gt {a} {b} f = by-cases (decLe a b) (λ h. h) (λ h. f (omega arith))
+pub not-gt : {a b : ℕ} → ¬ (b < a) → a ≤ b
+not-gt h = omega arith
 
 -- what the proofs need of an axis
 pub record Regular (a : Axis) : Type 0 where
@@ -31,12 +30,12 @@ pub record Regular (a : Axis) : Type 0 where
 
 -- ---- the CTB of a position
 
-module _ (a : Axis) (ok : Regular a) where
+module _ (a : Axis) where
   pub lower : (x : ℕ) → ctbStart a x ≤ x
   lower x = div-mul-le-self x (a .ctb)
 
-  pub upper : (x : ℕ) → x < ctbStart a x + a .ctb
-  upper x = lt-div-mul-add (omega (arith, ok .big))
+  pub upper : Regular a → (x : ℕ) → x < ctbStart a x + a .ctb
+  upper ok x = lt-div-mul-add (omega (arith, ok .big))
 
   pub ctb-of : (q u : ℕ) → q * a .ctb ≤ u → u < q * a .ctb + a .ctb → u / a .ctb ≡ q
   ctb-of q u h l = div-eq-of-lt-le (a .ctb) h (omega arith)
@@ -44,6 +43,14 @@ module _ (a : Axis) (ok : Regular a) where
   -- a position is where its CTB begins and its place in the CTB
   pub parts : (x : ℕ) → ctbStart a x + inCtb a x ≡ x
   parts x = div-add-mod' x (a .ctb)
+
+  -- a later position in another CTB lies past this one's end
+  pub past-end : (x u : ℕ) → x ≤ u → x / a .ctb ≢ u / a .ctb → ctbStart a x + a .ctb ≤ u
+  past-end x u h ne = not-gt (λ l. ne (sym (ctb-of (x / a .ctb) u (omega (arith, lower x)) l)))
+
+  -- and at most 7 further on, in the next CTB
+  pub following : Regular a → (x u : ℕ) → x ≤ u → u ≤ x + 7 → x / a .ctb ≢ u / a .ctb → u / a .ctb ≡ suc (x / a .ctb)
+  following ok x u h k ne = ctb-of (suc (x / a .ctb)) u (omega (arith, past-end x u h ne)) (omega (arith, upper ok x, ok .big))
 
 -- ---- acceptance
 

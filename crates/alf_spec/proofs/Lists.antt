@@ -1,5 +1,5 @@
 -- Laws of the lists in `specs/Lists`: what stands in a table, and in a list with entries written anew. Assumes nothing.
-use mathlib.Core.Path.{_≡_, refl}
+use mathlib.Core.Path.{_≡_, refl, ap}
 use mathlib.Core.Bool.{Bool, cond}
 use mathlib.Core.List.{List, [], _∷_, map}
 use Prim.Native.Nat.{ℕ, zero, suc, _<_, suc-le-suc}
@@ -24,6 +24,16 @@ unfolding painted
 painted-at [] test value k h = absurd (not-suc-le-zero h)
 painted-at (x ∷ xs) test value zero h = refl
 painted-at (x ∷ xs) test value (suc k) h = painted-at xs (λ k. test (suc k)) (λ k. value (suc k)) k (le-of-suc-le-suc h)
+
+pub tabulate-length : (n : ℕ) (f : ℕ → ℕ) → length (tabulate n f) ≡ n
+unfolding tabulate
+tabulate-length zero f = refl
+tabulate-length (suc n) f = ap suc (tabulate-length n (λ k. f (suc k)))
+
+pub painted-length : (xs : List ℕ) (test : ℕ → Bool) (value : ℕ → ℕ) → length (painted xs test value) ≡ length xs
+unfolding painted
+painted-length [] test value = refl
+painted-length (x ∷ xs) test value = ap suc (painted-length xs (λ k. test (suc k)) (λ k. value (suc k)))
 
 -- ---- what holds of each entry
 

@@ -1,17 +1,18 @@
 -- The isolation claim at work: two pictures that differ outside a subpicture whose switch is off, in samples, CTB parameters and list. The
--- premises hold, the luma filter changes samples inside, and the two outputs differ outside. Assumes nothing.
+-- premises hold, the luma filter changes samples inside, the two outputs differ outside, and with the switch on they would differ inside.
+-- Assumes nothing.
 use mathlib.Core.Path.{_≡_, refl}
 use mathlib.Core.Bool.{Bool, true, false≢true}
-use mathlib.Core.List.{List, [], _∷_, map, _++_}
-use Prim.Native.Nat.{ℕ, zero, suc, _+_, _*_, _<_}
+use mathlib.Core.List.{List, [], _∷_, _++_}
+use Prim.Native.Nat.{ℕ, _+_, _*_, _<_}
 use native.Mathlib.Nat.{mul-one}
-use lib.IntN.{pos}
+use lib.IntN.{ℤ, pos}
 use lib.Dec.{eqb}
 use lib.ListN.{getD, replicate}
 use borrow.Author.Tests.{eqb-true, ltb-true}
 use Rattle.alf_spec.specs.Lists.{implies, allBelow, everyFrom, elem, sumBelow, sumBelowℤ, tabulate, painted}
 use Rattle.alf_spec.specs.Arithmetic.{clip3, distance, rounded, clipSample, clippedChange, tap, tapSum, filtered}
-use Rattle.alf_spec.specs.Input.{luma, Input}
+use Rattle.alf_spec.specs.Input.{Layout, luma, Input}
 use Rattle.alf_spec.specs.Geometry.{ctbSize, planeOf, lumaPlane, indexOf, ctbAt, address, lineRule, bottomDistance}
 use Rattle.alf_spec.specs.Boundary.{sliceOf, subpicOf, tileColumnOf, tileRowOf, tileDisables, sliceDisables, subpicDisables, columnDisabled, rowDisabled, cornerDisabled, find, lineClip, virtualClip, sideClip, clipPosition}
 use Rattle.alf_spec.specs.Padding.{columnClip, rowClip, paddedRow, pastCorner, paddedColumn, read}
@@ -21,11 +22,10 @@ use Rattle.alf_spec.specs.Luma.{lumaF, lumaC, tapOrder, lumaRows, lumaPl
 use Rattle.alf_spec.specs.Process.{lumaOn, isFiltered, atIndex, filteredPlane, result}
 use Rattle.alf_spec.specs.Faults.{pictureSizeValid, ctbSizeValid, bitDepthValid, chromaFormatValid, componentValid, layoutLengthsValid, filterLengthsValid, fixedLengthsValid, lengthsValid, apartAt, virtualListValid, virtualBoundariesValid, followsAt, tileListValid, tilesValid, cornerAt, cornersInRow, cornersValid, slicesValid, subpicturesValid, sliceParamsValid, ctbRangesValid, ctbChromaZero, ctbParamsValidAt, parametersValid, coeffValid, clipValid, isClip, bankNumberValid, bankValid, fixedValid, samplesValid, addressesValid, unless, sizesFault, boundariesFault, tablesFault, fault}
 use Rattle.alf_spec.specs.Isolation.{inside, regionOf, subpicRegion, outputInside}
-use Rattle.alf_spec.proofs.Tests.{both, implied, all-at}
+use Rattle.alf_spec.proofs.Tests.{implied, all-at}
 use Rattle.alf_spec.proofs.Examples.{repeated}
-use Rattle.alf_spec.proofs.WorkedExamples.{coefficients}
 use Rattle.alf_spec.proofs.IsolatedRegions.Inside.{Inside}
-use Rattle.alf_spec.proofs.IsolatedRegions.SmallRegions.{twoSubpictures, small-regions}
+use Rattle.alf_spec.proofs.IsolatedRegions.SmallRegions.{subpictures, twoSubpictures, small-regions}
 use Rattle.alf_spec.proofs.TwoRuns.{TwoRuns, isolation}
 
 -- the left subpicture, whose switch is off
@@ -36,10 +36,14 @@ region = subpicRegion twoSubpictures 0
 abbrev picture : ℕ → List ℕ
 picture right = repeated 4 (repeated 16 (0 ∷ 8 ∷ []) ++ replicate 32 right ++ repeated 16 (8 ∷ 0 ∷ []) ++ replicate 32 right)
 
--- the left CTB is filtered by fixed set 0; of the right one flag and set are given
-abbrev input : ℕ → ℕ → ℕ → List ℕ → Input
-input right flag set list = record {
-  layout = twoSubpictures;
+-- of twelve coefficients the seventh alone is set, to 64: at transpose 3, which a checkerboard has, the taps left and right of the sample
+abbrev coefficients : List ℤ
+coefficients = replicate 6 (pos 0) ++ (pos 64 ∷ []) ++ replicate 5 (pos 0)
+
+-- the left CTB is filtered; of the right one flag and set are given
+abbrev input : Layout → ℕ → ℕ → ℕ → List ℕ → Input
+input l right flag set list = record {
+  layout = l;
   luma = picture right;
   chroma = [];
   sliceParams = replicate 11 0;
@@ -51,12 +55,18 @@ input right flag set list = record {
   outputLength = 512;
 }
 
-abbrev first : Input
-first = input 0 0 0 (0 ∷ [])
+abbrev before : Layout → Input
+before l = input l 0 0 0 (0 ∷ [])
 
--- other samples outside, another filter for the CTB outside, which is listed here, and the CTB inside is listed twice
+-- other samples outside, another flag and filter set for the CTB outside, which is listed here, and the CTB inside is listed twice
+abbrev after : Layout → Input
+after l = input l 100 1 7 (1 ∷ 0 ∷ 0 ∷ [])
+
+abbrev first : Input
+first = before twoSubpictures
+
 abbrev second : Input
-second = input 100 1 7 (1 ∷ 0 ∷ 0 ∷ [])
+second = after twoSubpictures
 
 accepts : (fault luma first ≡ 0) × (fault luma second ≡ 0)
 unfolding allBelow everyFrom ctbSize planeOf sliceOf ctbParam sliceParam pictureSizeValid ctbSizeValid bitDepthValid chromaFormatValid componentValid layoutLengthsValid filterLengthsValid fixedLengthsValid lengthsValid apartAt virtualListValid virtualBoundariesValid followsAt tileListValid tilesValid cornerAt cornersInRow cornersValid slicesValid subpicturesValid sliceParamsValid ctbRangesValid ctbChromaZero ctbParamsValidAt parametersValid coeffValid clipValid isClip bankNumberValid bankValid fixedValid samplesValid addressesValid unless sizesFault boundariesFault tablesFault fault
@@ -106,18 +116,20 @@ runs = record {
   listed = λ _. same-listing;
 }
 
--- what the luma filter makes of the two
+-- what the luma filter makes of the two, at places of the first row
 pub record RewrittenOutside : Type 0 where
   -- it works inside, on samples 0 and 8
-  pub filtered-inside : getD (result luma first) 0 0 ∷ getD (result luma first) 1 0 ∷ [] ≡ 4 ∷ 4 ∷ []
-  -- and what was rewritten has an effect outside
-  pub differ-outside : getD (result luma first) 32 0 ∷ getD (result luma second) 32 0 ∷ [] ≡ 0 ∷ 100 ∷ []
+  pub filtered-inside : getD (result luma first) 0 0 ∷ getD (result luma first) 1 0 ∷ [] ≡ 4 ∷ 0 ∷ []
+  -- what was rewritten has an effect outside
+  pub differ-outside : getD (result luma first) 32 0 ∷ getD (result luma second) 32 0 ∷ [] ≡ 0 ∷ 54 ∷ []
+  -- and it would have one inside, beside the border, were the left switch on
+  pub differ-if-open : getD (result luma (before (subpictures 1))) 31 0 ∷ getD (result luma (after (subpictures 1))) 31 0 ∷ [] ≡ 0 ∷ 50 ∷ []
 
 pub rewritten-outside : RewrittenOutside
 unfolding everyFrom allBelow elem sumBelow sumBelowℤ tabulate painted clip3 distance rounded clipSample clippedChange tap tapSum filtered ctbSize planeOf lineRule bottomDistance sliceOf subpicOf tileColumnOf tileRowOf tileDisables sliceDisables subpicDisables columnDisabled rowDisabled cornerDisabled find lineClip virtualClip sideClip clipPosition columnClip rowClip paddedRow pastCorner paddedColumn read ctbParam sliceParam bankNumber fixedCoeff classWindow filtH filtV filtD0 filtD1 windowRows windowSum windowSums larger diagonal mainGradient otherGradient strength activity transposeIdx filtIdx classOfSums classOf blockClass lumaF lumaC tapOrder lumaRows lumaPlus lumaMinus lumaWith lumaSample lumaOn isFiltered atIndex filteredPlane result
-rewritten-outside = record { filtered-inside = refl; differ-outside = refl }
+rewritten-outside = record { filtered-inside = refl; differ-outside = refl; differ-if-open = refl }
 
--- the claim, at the sample beside the boundary: row 0, column 31
-pub beside-boundary : getD (result luma first) 31 0 ≡ getD (result luma second) 31 0
+-- the switch is off, and by the claim there is none
+pub beside-border : getD (result luma first) 31 0 ≡ getD (result luma second) 31 0
 unfolding tabulate ctbSize planeOf subpicOf inside regionOf subpicRegion outputInside
-beside-boundary = isolation luma region first second runs 31 (ltb-true 31 512 refl) refl
+beside-border = isolation luma region first second runs 31 (ltb-true 31 512 refl) refl

@@ -5,7 +5,7 @@ use mathlib.Core.List.{List}
 use Prim.Native.Nat.{ℕ, _+_, _*_, _<_}
 use native.Mathlib.Omega.{arith}
 use lib.Dec.{eqb}
-use lib.ListN.{getD}
+use lib.ListN.{length, getD}
 use Rattle.alf_spec.specs.Lists.{elem}
 use Rattle.alf_spec.specs.Input.{Layout, Operation, classes, luma, chroma, crossComponent, given, Input}
 use Rattle.alf_spec.specs.Geometry.{subWidth, subHeight, planeOf, lumaPlane, chromaPlane, classPlane, planeLength, columnOf, rowOf, ctbAt, address}
@@ -13,10 +13,10 @@ use Rattle.alf_spec.specs.Parameters.{ctbParam}
 use Rattle.alf_spec.specs.Luma.{lumaSample}
 use Rattle.alf_spec.specs.Chroma.{chromaSample}
 use Rattle.alf_spec.specs.CrossComponent.{crossSample}
-use Rattle.alf_spec.specs.Process.{classNumber, classAt, classMap, lumaOn, chromaOn, crossOn, result, outputPlane}
+use Rattle.alf_spec.specs.Process.{classNumber, classAt, classMap, lumaOn, chromaOn, crossOn, filteredPlane, result, outputPlane}
 use Rattle.alf_spec.specs.Faults.{componentValid, fault}
 use Rattle.alf_spec.specs.Isolation.{isolated, outputInside}
-use Rattle.alf_spec.proofs.Lists.{tabulate-at}
+use Rattle.alf_spec.proofs.Lists.{tabulate-at, tabulate-length, painted-length}
 use Rattle.alf_spec.proofs.Accepted.{accepted, component-of, luma-length, chroma-length}
 use Rattle.alf_spec.proofs.IsolatedRegions.Inside.{Inside, SameInside, luma-ctb, luma-inside}
 use Rattle.alf_spec.proofs.IsolatedRegions.Ratios.{whole, chroma-ratios}
@@ -25,16 +25,16 @@ use Rattle.alf_spec.proofs.IsolatedRegions.Reads.{same-reads}
 use Rattle.alf_spec.proofs.IsolatedRegions.Samples.{same-class, atLayout, SameFilters, same-luma, same-chroma, same-cross}
 use Rattle.alf_spec.proofs.IsolatedRegions.Results.{index-inside, SameOutput, same-output}
 
--- two runs of one operation, and a region. "Of the things that demand 3 wants alike, only those count that the operation is lent, its input
--- planes at the samples inside"
+-- Two runs of one operation, and a region. Quoted are demand 3 and, where it says so, the scope paper (01). 01: "Of the things that demand 3
+-- wants alike, only those count that the operation is lent, its input planes at the samples inside".
 pub record TwoRuns (op : Operation) (region : List ℕ) (i j : Input) : Type 0 where
-  -- "two inputs accepted for it"; "Accepted means that no numbered cause applies"
+  -- "two inputs accepted for it"; 01: "Accepted means that no numbered cause applies"
   pub firstAccepted : fault op i ≡ 0
   pub secondAccepted : fault op j ≡ 0
-  -- "every region that is isolated in their common boundary tables"
+  -- "every region that is isolated in their common boundary tables"; 01: "no open step goes from a sample in it to one outside it"
   pub regionIsolated : isolated (i .layout) region ≡ true
-  -- "alike in sizes, CTB exponent, depth, chroma mark, boundary tables"; "The boundary tables are virtual boundaries, tiles, slice map with N,
-  -- subpictures, and the switches"
+  -- "alike in sizes, CTB exponent, depth, chroma mark, boundary tables"; 01: "The boundary tables are virtual boundaries, tiles, slice map with
+  -- N, subpictures, and the switches"
   pub layout : i .layout ≡ j .layout
   -- "of slice parameters, bank and fixed tables in those that the operation is given"
   pub sliceParams : given op .filters ≡ true → i .sliceParams ≡ j .sliceParams
@@ -47,7 +47,7 @@ pub record TwoRuns (op : Operation) (region : List ℕ) (i j : Input) : Type 0 w
   -- "every CTB with a sample inside has the same CTB parameters"
   pub ctbParams : given op .filters ≡ true → (x y : ℕ) → Inside (i .layout) region (lumaPlane (i .layout)) x y → (n : ℕ) → n < 8
       → ctbParam i (ctbAt (lumaPlane (i .layout)) x y) n ≡ ctbParam j (ctbAt (lumaPlane (i .layout)) x y) n
-  -- "and is listed in both or in neither"; "A CTB is listed when its address stands in the list at least once"
+  -- "and is listed in both or in neither"; 01: "A CTB is listed when its address stands in the list at least once"
   pub listed : given op .filters ≡ true → (x y : ℕ) → Inside (i .layout) region (lumaPlane (i .layout)) x y
       → elem (address (i .layout) (ctbAt (lumaPlane (i .layout)) x y)) (i .ctbList)
       ≡ elem (address (i .layout) (ctbAt (lumaPlane (i .layout)) x y)) (j .ctbList)
@@ -110,7 +110,7 @@ from-reads (crossComponent component) region i j runs lumaReads chromaReads =
     (λ a. crossOn a component) (λ c f. ap (λ n. not (eqb n 0)) (f .ctbParams (6 + component) (omega arith)))
     (λ a. crossSample a component) (same-cross (i .layout) region i j component valid (lumaReads refl) (runs .chroma refl))
 
--- the two class maps or output planes are equal at every place inside
+-- 01: "then the two class planes or output planes are equal at every place inside"
 pub isolation : (op : Operation) (region : List ℕ) (i j : Input) → TwoRuns op region i j
     → (k : ℕ) → k < planeLength (outputPlane op (i .layout)) → outputInside op (i .layout) region k ≡ true
     → getD (result op i) k 0 ≡ getD (result op j) k 0
@@ -120,3 +120,11 @@ isolation op region i j runs k h q =
     subst (λ l. TwoRuns op region i (atLayout l j) → getD (result op i) k 0 ≡ getD (result op (atLayout l j)) k 0) (runs .layout)
     (λ r. from-reads op region i j r (λ e. reads 1 1 whole whole (i .luma) (j .luma) (runs .luma e))
     (λ e. reads _ _ (ratios .0) (ratios .1) (i .chroma) (j .chroma) (runs .chroma e)) k h q) runs
+
+-- and every place of the output is one of the result
+pub result-length : (op : Operation) (i : Input) → fault op i ≡ 0 → length (result op i) ≡ planeLength (outputPlane op (i .layout))
+unfolding result classMap filteredPlane
+result-length classes i q = tabulate-length _ _
+result-length luma i q = painted-length (i .luma) _ _ ∙ luma-length luma i q refl
+result-length (chroma component) i q = painted-length (i .chroma) _ _ ∙ chroma-length (chroma component) i q refl
+result-length (crossComponent component) i q = painted-length (i .chroma) _ _ ∙ chroma-length (crossComponent component) i q refl

@@ -33,7 +33,7 @@ pub part : (a : Axis) → Regular a → {u m v : ℕ} → u ≤ m → m ≤ v �
 part a ok {u} {m} {v} h l c = record {
   inU = c .inU;
   inV = omega (arith, c .inV);
-  ctb = sym (ctb-of a ok (u / a .ctb) m (omega (arith, lower a ok u)) (omega (arith, upper a ok v, ap (λ (q : ℕ). q * a .ctb) (c .ctb))));
+  ctb = sym (ctb-of a (u / a .ctb) m (omega (arith, lower a u)) (omega (arith, upper a ok v, ap (λ (q : ℕ). q * a .ctb) (c .ctb))));
   clear = λ b w. (λ k. omega arith, λ k. c .clear b w .1 (omega arith));
 }
 

@@ -9,7 +9,7 @@ use native.Mathlib.Omega.{arith}
 use Rattle.alf_spec.specs.Geometry.{Side, before, after, Axis, samples, lumaPosition}
 use Rattle.alf_spec.specs.Boundary.{clipPosition}
 use Rattle.alf_spec.specs.Padding.{lowest, limit, clamped, pastCtb}
-use Rattle.alf_spec.proofs.Axes.{by-gt, Regular}
+use Rattle.alf_spec.proofs.Axes.{not-gt, Regular}
 use Rattle.alf_spec.proofs.IsolatedRegions.Ratios.{Ratio, own-le, le-own, own-lt, lt-own, Toward, toward-luma}
 use Rattle.alf_spec.proofs.IsolatedRegions.Reach.{Reach}
 use Rattle.alf_spec.proofs.IsolatedRegions.ClipPositions.{Ends, stops, runs, Near, First, bound, bound4, Free, clip-ends}
@@ -17,8 +17,8 @@ use Rattle.alf_spec.proofs.IsolatedRegions.PastCtb.{Between, leaves, pa
 use Rattle.alf_spec.proofs.IsolatedRegions.Ways.{Guarded}
 
 clear-of : (d : Side) (x b u : ℕ) → Toward d x u → ¬ Between d x b u → (b ≤ x) ↔ (b ≤ u)
-clear-of before x b u t f = (λ h. by-gt (λ l. absurd (f (h, l))), λ h. omega arith)
-clear-of after x b u t f = (λ h. omega arith, λ h. by-gt (λ l. absurd (f (l, h))))
+clear-of before x b u t f = (λ h. not-gt (λ l. f (h, l)), λ h. omega arith)
+clear-of after x b u t f = (λ h. omega arith, λ h. not-gt (λ l. f (l, h)))
 
 -- the first multiple of 4 is passed by nothing that stays before it, nor is any other
 stopped : (d : Side) (x u e b : ℕ) → First d x e → b % 4 ≡ 0 → ¬ Between d x e u → ¬ Between d x b u
@@ -51,7 +51,7 @@ module _ (a : Axis) (ok : Regular a) (ratio : Ratio (a .ratio)) (disabled : Side
   U = lumaPosition a u
 
   lowest-le : {N : Type 0} (o : Option ℕ) → Ends (First before X) N o → lowest a o ≤ x
-  lowest-le _ (stops f) = own-le (a .ratio) ratio _ x (f .1)
+  lowest-le _ (stops f) = own-le (a .ratio) _ x (f .1)
   lowest-le _ (runs n) = omega arith
 
   lt-limit : {N : Type 0} (o : Option ℕ) → Ends (First after X) N o → x < limit a o
@@ -73,38 +73,38 @@ module _ (a : Axis) (ok : Regular a) (ratio : Ratio (a .ratio)) (disabled : Side
   drawn before t = omega (arith, low, high)
   drawn after t = omega (arith, low, high)
 
-  held : (d : Side) (e : ℕ) → First d X e → clip d ≡ some e → ¬ Between d X e U
-  held before e f q h =
+  not-passed : (d : Side) (e : ℕ) → First d X e → clip d ≡ some e → ¬ Between d X e U
+  not-passed before e f q h =
       let l : e / a .ratio ≤ u = rw (← (ap (lowest a) q)) (kept .0) in
       let z = le-own (a .ratio) ratio e u (f .0) l in
       omega arith
-  held after e f q h =
+  not-passed after e f q h =
       let l : u < e / a .ratio = rw (← (ap (limit a) q)) (kept .1) in
-      let z = lt-own (a .ratio) ratio e u l in
+      let z = lt-own (a .ratio) e u l in
       omega arith
 
   module _ (d : Side) (t : Toward d x p) (r : Reach X P) where
     -- a multiple of 4 that is crossed is near, and there is no clip position
-    pass : (o : Option ℕ) → clip d ≡ o → Ends (First d X) (Free a ok X disabled d) o
-        → (b : ℕ) → b % 4 ≡ 0 → Between d X b U → Near d X b × (clip d ≡ none) × Free a ok X disabled d
-    pass _ c (stops f) b q h = absurd (stopped d _ _ _ b f q (held d _ f c) h)
-    pass _ c (runs n) b q h = (near-of d _ U P b r (toward-luma (a .ratio) ratio d u p (drawn d t .1)) q h, c, n)
+    pass : (o : Option ℕ) → clip d ≡ o → Ends (First d X) (Free a X disabled d) o
+        → (b : ℕ) → b % 4 ≡ 0 → Between d X b U → Near d X b × (clip d ≡ none) × Free a X disabled d
+    pass _ c (stops f) b q h = absurd (stopped d _ _ _ b f q (not-passed d _ f c) h)
+    pass _ c (runs n) b q h = (near-of d _ U P b r (toward-luma (a .ratio) d u p (drawn d t .1)) q h, c, n)
 
     toward : Toward d X U
-    toward = toward-luma (a .ratio) ratio d x u (drawn d t .0)
+    toward = toward-luma (a .ratio) d x u (drawn d t .0)
 
     short : (X ≤ U + 7) × (U ≤ X + 7)
-    short = at-most-7 d X U P toward (toward-luma (a .ratio) ratio d u p (drawn d t .1)) r
+    short = at-most-7 d X U P toward (toward-luma (a .ratio) d u p (drawn d t .1)) r
 
-    crossing : (b : ℕ) → b % 4 ≡ 0 → Between d X b U → Near d X b × (clip d ≡ none) × Free a ok X disabled d
+    crossing : (b : ℕ) → b % 4 ≡ 0 → Between d X b U → Near d X b × (clip d ≡ none) × Free a X disabled d
     crossing = pass (clip d) refl (clip-ends a ok X disabled d)
 
-    leaving : X / a .ctb ≢ U / a .ctb → Near d X (bound a d X) × (clip d ≡ none) × Free a ok X disabled d
+    leaving : X / a .ctb ≢ U / a .ctb → Near d X (bound a d X) × (clip d ≡ none) × Free a X disabled d
     leaving ne = crossing (bound a d X) (bound4 a ok X d) (leaves a ok d X U toward ne)
 
     pub guarded : Guarded a disabled d X U
     guarded = record {
-      inPicture = lt-own (a .ratio) ratio (a .size) u (kept .2);
+      inPicture = lt-own (a .ratio) (a .size) u (kept .2);
       toward = toward;
       low = short .0;
       high = short .1;

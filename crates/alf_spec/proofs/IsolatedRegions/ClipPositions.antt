@@ -100,6 +100,10 @@ abbrev sideLimit : Side → ℕ
 sideLimit before = 3
 sideLimit after = 5
 
+-- no virtual boundary is near on that side, and if the CTB's side is, it is not disabled
+abbrev pub Free : Axis → ℕ → (Side → Bool) → Side → Type 0
+Free a x disabled d = ((b : ℕ) → List·Memᴰ b (a .virtualBoundaries) → ¬ Near d x b) × (Near d x (bound a d x) → disabled d ≡ false)
+
 module _ (a : Axis) (ok : Regular a) (x : ℕ) where
   start4 : ctbStart a x % 4 ≡ 0
   start4 =
@@ -111,27 +115,23 @@ module _ (a : Axis) (ok : Regular a) (x : ℕ) where
   bound4 after = omega (arith, start4, ok .ctb8)
 
   side-near : (d : Side) (n : ℕ) → n ≤ sideLimit d → sideTest a d x n ≡ true → Near d x (bound a d x)
-  side-near before n h q = let k = ltb-true (inCtb a x) n q in omega (arith, lower a ok x, parts a ok x)
-  side-near after n h q = let k = ltb-true (a .ctb - inCtb a x) n q in omega (arith, upper a ok x, parts a ok x)
+  side-near before n h q = let k = ltb-true (inCtb a x) n q in omega (arith, lower a x, parts a x)
+  side-near after n h q = let k = ltb-true (a .ctb - inCtb a x) n q in omega (arith, upper a ok x, parts a x)
 
   near-side : (d : Side) (n : ℕ) → sideLimit d ≤ n → Near d x (bound a d x) → sideTest a d x n ≡ true
-  near-side before n h k = lt-ltb (inCtb a x) n (omega (arith, parts a ok x))
-  near-side after n h k = lt-ltb (a .ctb - inCtb a x) n (omega (arith, parts a ok x))
+  near-side before n h k = lt-ltb (inCtb a x) n (omega (arith, parts a x))
+  near-side after n h k = lt-ltb (a .ctb - inCtb a x) n (omega (arith, parts a x))
 
   first-line : (d : Side) → Ends (First d x) Unit (lineClip a x d)
   unfolding lineClip
   first-line before = only-ends _ (linePosition a x) (λ q.
       let l = leb-true (a .ctb - 4) (inCtb a x) (both (a .hasLine) (leb (a .ctb - 4) (inCtb a x)) q .1) in
-      omega (arith, start4, ok .ctb8, ok .big, upper a ok x, parts a ok x)) (λ _. tt)
+      omega (arith, start4, ok .ctb8, ok .big, upper a ok x, parts a x)) (λ _. tt)
   first-line after = only-ends _ (linePosition a x) (λ q.
       let h = both (ltb x (linePosition a x)) (leb (linePosition a x - x) 4) (both (a .hasLine) _ q .1) in
       let l = ltb-true x (linePosition a x) (h .0) in
       let k = leb-true (linePosition a x - x) 4 (h .1) in
       omega (arith, start4, ok .ctb8, ok .big)) (λ _. tt)
-
-  -- no virtual boundary is near on that side, and if the CTB's side is, it is not disabled
-  abbrev pub Free : (Side → Bool) → Side → Type 0
-  Free disabled d = ((b : ℕ) → List·Memᴰ b (a .virtualBoundaries) → ¬ Near d x b) × (Near d x (bound a d x) → disabled d ≡ false)
 
   first-virtual : (d : Side) → Ends (First d x) ((b : ℕ) → List·Memᴰ b (a .virtualBoundaries) → ¬ Near d x b) (virtualClip a x d)
   unfolding virtualClip
@@ -152,7 +152,7 @@ module _ (a : Axis) (ok : Regular a) (x : ℕ) where
     first-side before = tested-side before _ (omega arith) (omega arith)
     first-side after = tested-side after _ (omega arith) (omega arith)
 
-    pub clip-ends : (d : Side) → Ends (First d x) (Free disabled d) (clipPosition a x disabled d)
+    pub clip-ends : (d : Side) → Ends (First d x) (Free a x disabled d) (clipPosition a x disabled d)
     unfolding clipPosition
     clip-ends before = map-ends (λ n. n .1) (or-ends (first-line before) (or-ends (first-virtual before) (first-side before)))
     clip-ends after = map-ends (λ n. (n .0, n .1 .1)) (or-ends (first-virtual after) (or-ends (first-line after) (first-side after)))

@@ -16,7 +16,7 @@ use Rattle.alf_spec.proofs.Accepted.{Accepted}
 use Rattle.alf_spec.proofs.Axes.{Regular, regular-columns, regular-rows}
 use Rattle.alf_spec.proofs.IsolatedRegions.Cells.{Cell, Closed, walk}
 use Rattle.alf_spec.proofs.IsolatedRegions.Steps.{open-step, next-ctb}
-use Rattle.alf_spec.proofs.IsolatedRegions.Held.{Held, across, down, diagonal}
+use Rattle.alf_spec.proofs.IsolatedRegions.Held.{Held, held-column, held-row, held-diagonal}
 use Rattle.alf_spec.proofs.IsolatedRegions.Ways.{Over, Way, here, over}
 
 -- a step within a cell is open, both ways
@@ -50,6 +50,11 @@ not-corner before after s f = refl
 not-corner after before s f = refl
 not-corner after after s f = simp (f refl)
 
+diagonal-step : (l : Layout) (d e : Side) (m n : ℕ) → columnStep l m n d ≡ true → rowStep l m n e ≡ true
+    → (d ≡ e → sliceDisables l (ctbHolding l m n) (ctbHolding l (next d m) (next e n)) ≡ false) → diagonalStep l m n d e ≡ true
+unfolding diagonalStep planeOf
+diagonal-step l d e m n q q′ f = simp (q, q′, mul-one m, mul-one n, mul-one (next d m), mul-one (next e n), not-corner d e _ f)
+
 module _ (l : Layout) (ok : Accepted l) (columnRatio rowRatio : ℕ) where
   abbrev columns : Axis
   columns = planeOf l columnRatio rowRatio .columns
@@ -64,37 +69,32 @@ module _ (l : Layout) (ok : Accepted l) (columnRatio rowRatio : ℕ) where
   okY = regular-rows l ok columnRatio rowRatio
 
   -- a diagonal step over both sides of a CTB leads to the CTB that the corner flag speaks of
-  same-slice : (d e : Side) (m n : ℕ) → d ≡ e
+  corner-open : (d e : Side) (m n : ℕ) → d ≡ e
       → 0 < gap d m → gap d m < columns .size → m / columns .ctb ≢ next d m / columns .ctb
       → 0 < gap e n → gap e n < rows .size → n / rows .ctb ≢ next e n / rows .ctb
       → cornerDisabled l (ctbHolding l m n) d ≡ false → sliceDisables l (ctbHolding l m n) (ctbHolding l (next d m) (next e n)) ≡ false
   unfolding cornerDisabled planeOf
-  same-slice d e m n q lo hi ne lo′ hi′ ne′ f =
+  corner-open d e m n q lo hi ne lo′ hi′ ne′ f =
       let x = next-ctb columns okX d m lo hi ne in
       let y = next-ctb rows okY e n lo′ hi′ ne′ in
       let h : hasNext (ctbRows l) d (n / rows .ctb) ≡ true = rw q (y .1) in
       rw (x .0, y .0, ← q) (and-no _ _ (and-no _ _ f (x .1)) h)
-
-  diagonal-step : (d e : Side) (m n : ℕ) → columnStep l m n d ≡ true → rowStep l m n e ≡ true
-      → (d ≡ e → sliceDisables l (ctbHolding l m n) (ctbHolding l (next d m) (next e n)) ≡ false) → diagonalStep l m n d e ≡ true
-  unfolding diagonalStep planeOf
-  diagonal-step d e m n q q′ f = simp (q, q′, mul-one m, mul-one n, mul-one (next d m), mul-one (next e n), not-corner d e _ f)
 
   module _ (region : List ℕ) (iso : isolated l region ≡ true) where
     closedX : (y : ℕ) → Closed columns (λ x. Held l region x y)
     unfolding Closed
     closedX y b hi free q =
         let o = inner columns (columnDisabled l (ctbHolding l b y)) (columnDisabled l (ctbHolding l (suc b) y)) b hi free q in (
-          λ r. across l region iso b y r after (column-step l columnRatio rowRatio b y after (o .0)),
-          λ r. across l region iso (suc b) y r before (column-step l columnRatio rowRatio (suc b) y before (o .1)),
+          λ r. held-column l region iso b y r after (column-step l columnRatio rowRatio b y after (o .0)),
+          λ r. held-column l region iso (suc b) y r before (column-step l columnRatio rowRatio (suc b) y before (o .1)),
         )
 
     closedY : (x : ℕ) → Closed rows (λ y. Held l region x y)
     unfolding Closed
     closedY x b hi free q =
         let o = inner rows (rowDisabled l (ctbHolding l x b)) (rowDisabled l (ctbHolding l x (suc b))) b hi free q in (
-          λ r. down l region iso x b r after (row-step l columnRatio rowRatio x b after (o .0)),
-          λ r. down l region iso x (suc b) r before (row-step l columnRatio rowRatio x (suc b) before (o .1)),
+          λ r. held-row l region iso x b r after (row-step l columnRatio rowRatio x b after (o .0)),
+          λ r. held-row l region iso x (suc b) r before (row-step l columnRatio rowRatio x (suc b) before (o .1)),
         )
 
     walkX : {x u y : ℕ} → Cell columns x u → Held l region x y → Held l region u y
@@ -121,11 +121,11 @@ module _ (l : Layout) (ok : Accepted l) (columnRatio rowRatio : ℕ) where
           → (x / columns .ctb ≢ u / columns .ctb → y / rows .ctb ≢ v / rows .ctb → d ≡ e → cornerDisabled l (ctbHolding l x y) d ≡ false)
           → Held l region u v
       arrive (here c) (here k) f = walkY k (walkX c r)
-      arrive (over m o) (here k) f = walkX (o .outer) (across l region iso m v (walkY k (walkX (o .inner) r)) d (stepX o (o .inner) k))
-      arrive (here c) (over n w) f = walkY (w .outer) (down l region iso u n (walkY (w .inner) (walkX c r)) e (stepY w c (w .inner)))
+      arrive (over m o) (here k) f = walkX (o .outer) (held-column l region iso m v (walkY k (walkX (o .inner) r)) d (stepX o (o .inner) k))
+      arrive (here c) (over n w) f = walkY (w .outer) (held-row l region iso u n (walkY (w .inner) (walkX c r)) e (stepY w c (w .inner)))
       arrive (over m o) (over n w) f =
-          walkY (w .outer) (walkX (o .outer) (diagonal l region iso m n (walkY (w .inner) (walkX (o .inner) r)) d e
-          (diagonal-step d e m n (stepX o (o .inner) (w .inner)) (stepY w (o .inner) (w .inner)) (λ q. same-slice d e m n q
+          walkY (w .outer) (walkX (o .outer) (held-diagonal l region iso m n (walkY (w .inner) (walkX (o .inner) r)) d e
+          (diagonal-step l d e m n (stepX o (o .inner) (w .inner)) (stepY w (o .inner) (w .inner)) (λ q. corner-open d e m n q
           (o .low) (o .high) (λ s. o .other (o .inner .ctb ∙ s ∙ o .outer .ctb))
           (w .low) (w .high) (λ s. w .other (w .inner .ctb ∙ s ∙ w .outer .ctb))
           (carry (o .inner) (w .inner) (λ ctb. cornerDisabled l ctb d ≡ false) (f (o .other) (w .other) q))))))

@@ -48,23 +48,23 @@ module _ (l : Layout) (region : List ℕ) (iso : isolated l region ≡ true) (x 
       let u = both (bothSides rowTest) _ (t .1) in
       (t .0, u .0, u .1)
 
-  pub across : (d : Side) → columnStep l x y d ≡ true → Held l region (next d x) y
-  across d q = record {
+  pub held-column : (d : Side) → columnStep l x y d ≡ true → Held l region (next d x) y
+  held-column d q = record {
     column = column-below l x y d q;
     row = h .row;
     position = implied (columnStep l x y d) _ (on-side columnTest (stays .0) d) q;
   }
 
-  pub down : (e : Side) → rowStep l x y e ≡ true → Held l region x (next e y)
-  down e q = record {
+  pub held-row : (e : Side) → rowStep l x y e ≡ true → Held l region x (next e y)
+  held-row e q = record {
     column = h .column;
     row = row-below l x y e q;
     position = implied (rowStep l x y e) _ (on-side rowTest (stays .1) e) q;
   }
 
-  pub diagonal : (d e : Side) → diagonalStep l x y d e ≡ true → Held l region (next d x) (next e y)
+  pub held-diagonal : (d e : Side) → diagonalStep l x y d e ≡ true → Held l region (next d x) (next e y)
   unfolding diagonalStep
-  diagonal d e q =
+  held-diagonal d e q =
       let c = both (columnStep l x y d) _ q in
       record {
         column = column-below l x y d (c .0);

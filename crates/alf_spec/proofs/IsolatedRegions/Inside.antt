@@ -2,13 +2,14 @@
 use mathlib.Core.Path.{_≡_}
 use mathlib.Core.Bool.{true}
 use mathlib.Core.List.{List}
-use Prim.Native.Nat.{ℕ, _<_, zero, suc, _*_, _/_}
-use native.Mathlib.Nat.{mul-one, mul-le-mul-right, div-zero, div-mul-le-self, not-suc-le-zero}
+use Prim.Native.Nat.{ℕ, _<_}
+use native.Mathlib.Nat.{mul-one}
 use native.Mathlib.Omega.{arith}
 use lib.ListN.{getD}
-use Rattle.alf_spec.specs.Geometry.{Plane, samples, lumaPosition, indexOf, planeOf, lumaPlane, ctbAt}
 use Rattle.alf_spec.specs.Input.{Layout}
+use Rattle.alf_spec.specs.Geometry.{Plane, planeOf, lumaPlane, samples, lumaPosition, indexOf, ctbAt}
 use Rattle.alf_spec.specs.Isolation.{inside}
+use Rattle.alf_spec.proofs.IsolatedRegions.Ratios.{lt-own}
 
 -- 01: "Inside are the samples that lie in a block whose area byte is 1", "A chroma sample lies where twice its place lies": the plane's sample
 -- at column x and row y
@@ -23,25 +24,21 @@ SameInside l region g plane plane′ = (x y : ℕ) → Inside l region g x y →
 
 -- ---- the luma sample at a sample's place
 
-below : (size ratio x : ℕ) → x < size / ratio → x * ratio < size / 1
-below size zero x h = absurd (not-suc-le-zero (rw div-zero at h))
-below size (suc ratio) x h = omega (arith, mul-le-mul-right (suc ratio) h, div-mul-le-self size (suc ratio))
-
 module _ (l : Layout) (columnRatio rowRatio : ℕ) where
-  abbrev plane : Plane
-  plane = planeOf l columnRatio rowRatio
+  abbrev g : Plane
+  g = planeOf l columnRatio rowRatio
 
-  -- the luma sample at a sample's luma position is of the same CTB
-  pub luma-ctb : (x y : ℕ) → ctbAt (lumaPlane l) (lumaPosition (plane .columns) x) (lumaPosition (plane .rows) y) ≡ ctbAt plane x y
+  -- is of the same CTB
+  pub luma-ctb : (x y : ℕ) → ctbAt (lumaPlane l) (lumaPosition (g .columns) x) (lumaPosition (g .rows) y) ≡ ctbAt g x y
   unfolding planeOf
   luma-ctb x y = simp mul-one
 
   -- and lies inside where the sample does
-  pub luma-inside : (region : List ℕ) (x y : ℕ) → Inside l region plane x y
-      → Inside l region (lumaPlane l) (lumaPosition (plane .columns) x) (lumaPosition (plane .rows) y)
+  pub luma-inside : (region : List ℕ) (x y : ℕ) → Inside l region g x y
+      → Inside l region (lumaPlane l) (lumaPosition (g .columns) x) (lumaPosition (g .rows) y)
   unfolding planeOf
   luma-inside region x y s = record {
-    column = below (l .picture .width) columnRatio x (s .column);
-    row = below (l .picture .height) rowRatio y (s .row);
+    column = omega (arith, lt-own columnRatio (l .picture .width) x (s .column));
+    row = omega (arith, lt-own rowRatio (l .picture .height) y (s .row));
     position = simp mul-one (s .position);
   }

@@ -7,7 +7,7 @@ use native.Mathlib.Omega.{arith}
 use borrow.Author.Tests.{ltb-true, lt-ltb}
 use Rattle.alf_spec.specs.Geometry.{Side, before, after, Axis, lumaPosition, ctbStart}
 use Rattle.alf_spec.specs.Padding.{ctbEnd, pastCtb}
-use Rattle.alf_spec.proofs.Axes.{by-gt, Regular, lower, upper, ctb-of}
+use Rattle.alf_spec.proofs.Axes.{not-gt, Regular, lower, upper, ctb-of, past-end}
 use Rattle.alf_spec.proofs.IsolatedRegions.Cells.{Cell, part}
 use Rattle.alf_spec.proofs.IsolatedRegions.Ratios.{Ratio, boundary, own-lt, lt-own, last-own, last-in, Toward}
 use Rattle.alf_spec.proofs.IsolatedRegions.ClipPositions.{bound, bound4}
@@ -21,9 +21,8 @@ Between after x b u = (x < b) × (b ≤ u)
 -- the CTB is left over its side
 pub leaves : (a : Axis) → Regular a → (d : Side) (x u : ℕ) → Toward d x u → x / a .ctb ≢ u / a .ctb → Between d x (bound a d x) u
 leaves a ok before x u t ne =
-    (lower a ok x, by-gt (λ l. absurd (ne (sym (ctb-of a ok (x / a .ctb) u (omega arith) (omega (arith, upper a ok x)))))))
-leaves a ok after x u t ne =
-    (upper a ok x, by-gt (λ l. absurd (ne (sym (ctb-of a ok (x / a .ctb) u (omega (arith, lower a ok x)) (omega arith))))))
+    (lower a x, not-gt (λ l. ne (sym (ctb-of a (x / a .ctb) u (omega arith) (omega (arith, upper a ok x))))))
+leaves a ok after x u t ne = (upper a ok x, past-end a x u t ne)
 
 -- u stands past the boundary b
 abbrev Beyond : Side → ℕ → ℕ → Type 0
@@ -47,19 +46,19 @@ module _ (a : Axis) (ok : Regular a) (ratio : Ratio (a .ratio)) (x u : ℕ) wher
   past after h = lt-ltb (ctbEnd a after x) u (after-last .1 (h .1))
 
   beyond : (d : Side) → pastCtb a d x u ≡ true → Beyond d (bound a d X) U
-  beyond before q = lt-own (a .ratio) ratio (ctbStart a X) u (ltb-true u (ctbEnd a before x) q)
+  beyond before q = lt-own (a .ratio) (ctbStart a X) u (ltb-true u (ctbEnd a before x) q)
   beyond after q = after-last .0 (ltb-true (ctbEnd a after x) u q)
 
   -- what lies past the CTB lies in another
   pub past-other : (d : Side) → pastCtb a d x u ≡ true → X / a .ctb ≢ U / a .ctb
-  past-other before q e = omega (arith, lower a ok U, beyond before q, ap (λ (n : ℕ). n * a .ctb) e)
+  past-other before q e = omega (arith, lower a U, beyond before q, ap (λ (n : ℕ). n * a .ctb) e)
   past-other after q e = omega (arith, upper a ok U, beyond after q, ap (λ (n : ℕ). n * a .ctb) e)
 
   -- and on that side
   pub past-side : (d e : Side) → Toward d X U → pastCtb a e x u ≡ true → d ≡ e
   past-side before before t q = refl
   past-side before after t q = absurd (omega (arith, upper a ok X, beyond after q))
-  past-side after before t q = absurd (omega (arith, lower a ok X, beyond before q))
+  past-side after before t q = absurd (omega (arith, lower a X, beyond before q))
   past-side after after t q = refl
 
 -- the corner rule moves a column within the CTB

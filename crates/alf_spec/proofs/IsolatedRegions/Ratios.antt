@@ -1,7 +1,8 @@
 -- A plane's own samples and their luma positions, over the ratio of the plane. Assumes nothing.
 use mathlib.Core.Path.{_≡_}
 use mathlib.Core.Logic.{_↔_}
-use Prim.Native.Nat.{ℕ, pred, _+_, _*_, _/_, _%_, _≤_, _<_}
+use Prim.Native.Nat.{ℕ, zero, suc, pred, _+_, _*_, _/_, _%_, _≤_, _<_}
+use native.Mathlib.Nat.{not-suc-le-zero, mul-comm, mul-le-mul-right, div-zero, div-mul-le-self, div-le-of-le-mul}
 use native.Mathlib.Omega.{arith}
 use Rattle.alf_spec.specs.declared.Picture.{Picture}
 use Rattle.alf_spec.specs.Geometry.{Side, before, after, subWidth, subHeight}
@@ -18,9 +19,8 @@ chroma-ratios p = (half, half)
 
 -- ---- a boundary at the luma position b, a multiple of 4, and the plane's own sample u
 
-pub own-le : (r : ℕ) → Ratio r → (b u : ℕ) → b ≤ u * r → b / r ≤ u
-own-le _ whole b u h = omega arith
-own-le _ half b u h = omega arith
+pub own-le : (r b u : ℕ) → b ≤ u * r → b / r ≤ u
+own-le r b u h = div-le-of-le-mul r (rw mul-comm at h)
 
 pub le-own : (r : ℕ) → Ratio r → (b u : ℕ) → b % 4 ≡ 0 → b / r ≤ u → b ≤ u * r
 le-own _ whole b u q h = omega arith
@@ -30,9 +30,9 @@ pub own-lt : (r : ℕ) → Ratio r → (b u : ℕ) → b % 4 ≡ 0 → u * r < b
 own-lt _ whole b u q h = omega arith
 own-lt _ half b u q h = omega arith
 
-pub lt-own : (r : ℕ) → Ratio r → (b u : ℕ) → u < b / r → u * r < b
-lt-own _ whole b u h = omega arith
-lt-own _ half b u h = omega arith
+pub lt-own : (r b u : ℕ) → u < b / r → u * r < b
+lt-own zero b u h = absurd (not-suc-le-zero (rw div-zero at h))
+lt-own (suc r) b u h = omega (arith, mul-le-mul-right (suc r) h, div-mul-le-self b (suc r))
 
 pub boundary : (r : ℕ) → Ratio r → (b : ℕ) → b % 4 ≡ 0 → b / r * r ≡ b
 boundary _ whole b q = omega arith
@@ -56,8 +56,6 @@ abbrev pub Toward : Side → ℕ → ℕ → Type 0
 Toward before x u = u ≤ x
 Toward after x u = x ≤ u
 
-pub toward-luma : (r : ℕ) → Ratio r → (d : Side) (v w : ℕ) → Toward d v w → Toward d (v * r) (w * r)
-toward-luma _ whole before v w t = omega arith
-toward-luma _ whole after v w t = omega arith
-toward-luma _ half before v w t = omega arith
-toward-luma _ half after v w t = omega arith
+pub toward-luma : (r : ℕ) (d : Side) (v w : ℕ) → Toward d v w → Toward d (v * r) (w * r)
+toward-luma r before v w t = mul-le-mul-right r t
+toward-luma r after v w t = mul-le-mul-right r t

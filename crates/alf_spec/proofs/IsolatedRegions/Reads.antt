@@ -46,8 +46,8 @@ module _ (l : Layout) (ok : Accepted l) (region : List ℕ) (iso : isolated l re
   to-luma : (x y : ℕ) → Inside l region g x y → Held l region (lumaPosition (g .columns) x) (lumaPosition (g .rows) y)
   unfolding planeOf
   to-luma x y i = record {
-    column = lt-own (g .columns .ratio) ratioX (g .columns .size) x (i .column);
-    row = lt-own (g .rows .ratio) ratioY (g .rows .size) y (i .row);
+    column = lt-own (g .columns .ratio) (g .columns .size) x (i .column);
+    row = lt-own (g .rows .ratio) (g .rows .size) y (i .row);
     position = i .position;
   }
 
@@ -86,12 +86,12 @@ module _ (l : Layout) (ok : Accepted l) (region : List ℕ) (iso : isolated l re
     wayX : Way (g .columns) (columnDisabled l (ctbAt g x y)) d X (lumaPosition (g .columns) u)
     wayX =
         way (g .columns) okX (columnDisabled l (ctbAt g x y)) d X (lumaPosition (g .columns) u)
-        (lt-own (g .columns .ratio) ratioX (g .columns .size) x (i .column)) guardedX
+        (lt-own (g .columns .ratio) (g .columns .size) x (i .column)) guardedX
 
     wayY : Way (g .rows) (rowDisabled l (ctbAt g x y)) e Y (lumaPosition (g .rows) v)
     wayY =
         way (g .rows) okY (rowDisabled l (ctbAt g x y)) e Y (lumaPosition (g .rows) v)
-        (lt-own (g .rows .ratio) ratioY (g .rows .size) y (i .row)) guardedY
+        (lt-own (g .rows .ratio) (g .rows .size) y (i .row)) guardedY
 
     -- the corner rule keeps the column within the CTB
     back : (f : Side) → d ≡ f → X / g .columns .ctb ≢ lumaPosition (g .columns) u / g .columns .ctb

@@ -24,9 +24,13 @@ pub zeros-isolated : (l : Layout) (n : ℕ) → isolated l (replicate n 0) ≡ t
 unfolding inside isolated
 zeros-isolated l n = at-all _ _ (λ y row. at-all _ _ (λ x column. simp zero-at))
 
--- 64 by 8 luma samples, two CTBs of 32, in one tile and slice
+-- 64 by 8 luma samples, two CTBs of 32, in one tile and slice, each a subpicture; with the left one's switch
+abbrev pub subpictures : ℕ → Layout
+subpictures switch = layout (picture 64 8 5 8 0 1) [] (0 ∷ 0 ∷ []) (0 ∷ []) (0 ∷ 0 ∷ []) (0 ∷ 1 ∷ []) (switch ∷ replicate 63 1)
+
+-- off
 abbrev pub twoSubpictures : Layout
-twoSubpictures = layout (picture 64 8 5 8 0 1) [] (0 ∷ 0 ∷ []) (0 ∷ []) (0 ∷ 0 ∷ []) (0 ∷ 1 ∷ []) (0 ∷ replicate 63 1)
+twoSubpictures = subpictures 0
 
 -- 16 by 8 luma samples, one CTB, with these virtual columns; and its left block
 abbrev twoBlocks : List ℕ → Layout

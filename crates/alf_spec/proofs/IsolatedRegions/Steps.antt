@@ -3,17 +3,17 @@ use mathlib.Core.Path.{_≡_, refl, sym, ap}
 use mathlib.Core.Logic.{_≢_, by-cases}
 use mathlib.Core.Bool.{Bool, true, false, not, _||_}
 use mathlib.Core.List.{List, [], _∷_, List·Memᴰ, List·Memᴰ·head, List·Memᴰ·tail}
-use Prim.Native.Nat.{ℕ, zero, suc, pred, _+_, _/_, _≤_, _<_}
+use Prim.Native.Nat.{ℕ, zero, suc, pred, _/_, _<_}
 use native.Mathlib.Nat.{le-div-iff-mul-le, not-suc-le-zero}
 use native.Mathlib.Decide.{ℕ-discrete}
 use native.Mathlib.Omega.{arith}
 use lib.Dec.{eqb, ltb}
 use borrow.Author.Tests.{ltb-true, lt-ltb, eq-eqb, ne-eqb}
 use Rattle.alf_spec.specs.Lists.{elem}
-use Rattle.alf_spec.specs.Geometry.{Side, before, after, next, gap, hasNext, Axis, ctbCount, ctbStart}
+use Rattle.alf_spec.specs.Geometry.{Side, before, after, next, gap, hasNext, Axis, ctbCount}
 use Rattle.alf_spec.specs.Isolation.{openStep}
 use Rattle.alf_spec.proofs.Tests.{both}
-use Rattle.alf_spec.proofs.Axes.{by-gt, Regular, lower, upper, ctb-of}
+use Rattle.alf_spec.proofs.Axes.{Regular, lower, following}
 
 -- ---- `hasNext` and the facts that it tests
 
@@ -66,22 +66,15 @@ module _ (a : Axis) (disabled : Side → Bool) (d : Side) (x : ℕ) where
 module _ (a : Axis) (ok : Regular a) where
   -- the CTB of a position of the picture is one of the picture's
   ctb-below : (x : ℕ) → x < a .size → x / a .ctb < ctbCount a
-  ctb-below x h = le-div-iff-mul-le {k = a .ctb} {x = suc (x / a .ctb)} (omega (arith, ok .big)) .1 (omega (arith, ok .big, lower a ok x))
-
-  -- the CTB of x + 1, if it is not x's own, is the next
-  following : (x : ℕ) → x / a .ctb ≢ suc x / a .ctb → suc x / a .ctb ≡ suc (x / a .ctb)
-  following x ne =
-      let low = lower a ok x in
-      let past : ctbStart a x + a .ctb ≤ suc x = by-gt (λ h. absurd (ne (sym (ctb-of a ok (x / a .ctb) (suc x) (omega arith) h)))) in
-      ctb-of a ok (suc (x / a .ctb)) (suc x) (omega arith) (omega (arith, upper a ok x, ok .big))
+  ctb-below x h = le-div-iff-mul-le {k = a .ctb} {x = suc (x / a .ctb)} (omega (arith, ok .big)) .1 (omega (arith, ok .big, lower a x))
 
   -- a step that leaves a CTB leads to the one next to it
   pub next-ctb : (d : Side) (x : ℕ) → 0 < gap d x → gap d x < a .size → x / a .ctb ≢ next d x / a .ctb
       → (next d x / a .ctb ≡ next d (x / a .ctb)) × (hasNext (ctbCount a) d (x / a .ctb) ≡ true)
   next-ctb before zero low high ne = absurd (not-suc-le-zero low)
   next-ctb before (suc x) low high ne =
-      let q = following x (λ e. ne (sym e)) in
+      let q = following a ok x (suc x) (omega arith) (omega arith) (λ e. ne (sym e)) in
       (sym (ap pred q), has-next (ctbCount a) before (suc x / a .ctb) (omega arith) (ctb-below (suc x) high))
   next-ctb after x low high ne =
-      let q = following x ne in
+      let q = following a ok x (suc x) (omega arith) (omega arith) ne in
       (q, has-next (ctbCount a) after (x / a .ctb) (omega arith) (omega (arith, ctb-below (suc x) high)))

@@ -46,7 +46,7 @@ pub chroma-taps : (x y : ℕ) (r : ChromaRows) → ChromaOffsets r → Each (Aro
 unfolding chromaPlus chromaMinus distance
 chroma-taps x y r h = (omega arith, omega arith)
 
--- Table 47: up to 2, of which 3 is enough, since they are luma rows
+-- Table 47: up to 2; the limit 3 stands here, so that the rule for luma serves
 abbrev pub CrossOffsets : CrossRows → Type 0
 CrossOffsets r = (r .y1 ≤ 3) × (r .y2 ≤ 3)
 

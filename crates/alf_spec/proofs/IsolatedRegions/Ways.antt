@@ -8,7 +8,7 @@ use native.Mathlib.Decide.{ℕ-discrete}
 use native.Mathlib.Omega.{arith}
 use Rattle.alf_spec.specs.Geometry.{Side, before, after, next, gap, Axis, ctbStart}
 use Rattle.alf_spec.specs.Isolation.{openStep}
-use Rattle.alf_spec.proofs.Axes.{by-gt, Regular, lower, upper, ctb-of}
+use Rattle.alf_spec.proofs.Axes.{Regular, lower, upper, ctb-of, past-end, following}
 use Rattle.alf_spec.proofs.IsolatedRegions.Cells.{Clear, Cell, cell-sym}
 use Rattle.alf_spec.proofs.IsolatedRegions.Ratios.{Toward}
 use Rattle.alf_spec.proofs.IsolatedRegions.Steps.{open-step}
@@ -23,25 +23,25 @@ record Split (a : Axis) (u v e : ℕ) : Type 0 where
 module _ (a : Axis) (ok : Regular a) where
   split : (u v e : ℕ) → suc e ≡ ctbStart a u + a .ctb → u ≤ v → v ≤ u + 7 → v < a .size → Clear a u v → u / a .ctb ≢ v / a .ctb → Split a u v e
   split u v e q le short inV clear ne =
-      let lo = lower a ok u in
+      let lo = lower a u in
       let hi = upper a ok u in
       let big = ok .big in
-      let past : suc e ≤ v = by-gt (λ h. absurd (ne (sym (ctb-of a ok (u / a .ctb) v (omega arith) (omega arith))))) in
-      let r : v / a .ctb ≡ suc (u / a .ctb) = ctb-of a ok (suc (u / a .ctb)) v (omega arith) (omega arith) in
+      let past = past-end a u v le ne in
+      let r = following a ok u v le short ne in
       record {
         left = record {
           inU = omega arith;
           inV = omega arith;
-          ctb = sym (ctb-of a ok (u / a .ctb) e (omega arith) (omega arith));
+          ctb = sym (ctb-of a (u / a .ctb) e (omega arith) (omega arith));
           clear = λ b w. (λ k. omega arith, λ k. clear b w .1 (omega arith));
         };
         right = record {
           inU = omega arith;
           inV = inV;
-          ctb = ctb-of a ok (suc (u / a .ctb)) (suc e) (omega arith) (omega arith) ∙ sym r;
+          ctb = ctb-of a (suc (u / a .ctb)) (suc e) (omega arith) (omega arith) ∙ sym r;
           clear = λ b w. (λ k. omega arith, λ k. let z = clear b w .1 k in omega arith);
         };
-        free = λ w. let z = clear (suc e) w .1 past in omega arith;
+        free = λ w. let z = clear (suc e) w .1 (omega arith) in omega arith;
         first = omega (arith, ap (λ (n : ℕ). n * a .ctb) r);
       }
 
