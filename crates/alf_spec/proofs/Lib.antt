@@ -1,4 +1,4 @@
--- Claims about the definitions alone, and laws of the words in `specs/Lists`.
+-- Claims about the definitions alone, and the laws that their proofs share.
 pub mod Accepted
 pub mod Axes
 pub mod Examples
