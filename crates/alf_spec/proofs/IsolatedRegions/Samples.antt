@@ -108,7 +108,7 @@ module _ {P : ℕ × ℕ → Type 0} {value value′ : ℕ × ℕ → ℕ} (same
   same-corrected taps near e ef = λ t. corrected depth (e t) (crossSum (same middle m t) (λ j. ef j t) (map-same P value value′ same taps near t))
 
 module _ (l : Layout) (region : List ℕ) (i j : Input) where
-  -- the fixed tables are the same
+  -- the luma filter is given the fixed tables as well
   pub same-luma : i .fixedFilters ≡ j .fixedFilters → i .fixedMap ≡ j .fixedMap → SameReads l region (lumaPlane l) (i .luma) (j .luma)
       → (x y : ℕ) → Inside l region (lumaPlane l) x y → SameFilters (atLayout l i) (atLayout l j) (ctbAt (lumaPlane l) x y)
       → lumaSample (atLayout l i) x y ≡ lumaSample (atLayout l j) x y
