@@ -11,7 +11,7 @@ use Rattle.alf_spec.proofs.Axes.{not-gt, Regular, lower, upper, ctb-of,
 use Rattle.alf_spec.proofs.IsolatedRegions.Cells.{Cell, part}
 use Rattle.alf_spec.proofs.IsolatedRegions.Ratios.{Ratio, boundary, own-lt, lt-own, last-own, last-in, Toward}
 use Rattle.alf_spec.proofs.IsolatedRegions.ClipPositions.{bound, bound4}
-use Rattle.alf_spec.proofs.IsolatedRegions.Ways.{rim}
+use Rattle.alf_spec.proofs.IsolatedRegions.Ways.{outermost}
 
 -- the boundary b is crossed on the way from x to u
 abbrev pub Between : Side → ℕ → ℕ → ℕ → Type 0
@@ -62,7 +62,7 @@ module _ (a : Axis) (ok : Regular a) (ratio : Ratio (a .ratio)) (x u : ℕ) wher
   past-side after after t q = refl
 
 -- the corner rule moves a column within the CTB
-pub end-cell : (a : Axis) → Regular a → Ratio (a .ratio) → (d : Side) (x m : ℕ) → rim a d (lumaPosition a x) ≡ m → Cell a (lumaPosition a x) m
+pub end-cell : (a : Axis) → Regular a → Ratio (a .ratio) → (d : Side) (x m : ℕ) → outermost a d (lumaPosition a x) ≡ m → Cell a (lumaPosition a x) m
     → Cell a (lumaPosition a x) (lumaPosition a (ctbEnd a d x))
 end-cell a ok ratio before x m q c =
     let start = ctbStart a (lumaPosition a x) in

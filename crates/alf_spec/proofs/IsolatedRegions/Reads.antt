@@ -100,7 +100,7 @@ module _ (l : Layout) (ok : Accepted l) (region : List ℕ) (iso : isolated l re
     unfolding planeOf
     back f s ne (here c) = absurd (ne (c .ctb))
     back f s ne (over m o) =
-        let c = end-cell (g .columns) okX ratioX d x m (o .atRim) (o .inner) in
+        let c = end-cell (g .columns) okX ratioX d x m (o .atEnd) (o .inner) in
         rw (← s) (arrive l ok columnRatio rowRatio region iso d e X Y _ _ (to-luma x y i) (here c) wayY (λ n _ _. absurd (n (c .ctb))))
 
     moved : (f : Side) → pastCorner l g x y p q f ≡ true

@@ -46,9 +46,9 @@ module _ (a : Axis) (ok : Regular a) where
       }
 
 -- the outermost position of x's CTB on that side
-abbrev pub rim : Axis → Side → ℕ → ℕ
-rim a before x = ctbStart a x
-rim a after x = pred (ctbStart a x + a .ctb)
+abbrev pub outermost : Axis → Side → ℕ → ℕ
+outermost a before x = ctbStart a x
+outermost a after x = pred (ctbStart a x + a .ctb)
 
 -- what clip positions ensure along one axis, for a position x and the position u that is read
 pub record Guarded (a : Axis) (disabled : Side → Bool) (d : Side) (x u : ℕ) : Type 0 where
@@ -61,7 +61,7 @@ pub record Guarded (a : Axis) (disabled : Side → Bool) (d : Side) (x u : ℕ) 
 
 -- over one side of x's CTB: from x to the CTB's outermost position m, one open step, and on to u
 pub record Over (a : Axis) (disabled : Side → Bool) (d : Side) (x u m : ℕ) : Type 0 where
-  pub atRim : rim a d x ≡ m
+  pub atEnd : outermost a d x ≡ m
   pub inner : Cell a x m
   pub low : 0 < gap d m
   pub high : gap d m < a .size
@@ -79,7 +79,7 @@ module _ (a : Axis) (ok : Regular a) (disabled : Side → Bool) where
       let e = pred (ctbStart a u + a .ctb) in
       let s = split a ok u x e (omega (arith, ok .big)) (p .toward) (p .low) inX (λ b w. (p .clear b w .1, p .clear b w .0)) (λ q. ne (sym q)) in
       over (suc e) (record {
-        atRim = s .first;
+        atEnd = s .first;
         inner = cell-sym (s .right);
         low = omega arith;
         high = s .right .inU;
@@ -91,7 +91,7 @@ module _ (a : Axis) (ok : Regular a) (disabled : Side → Bool) where
       let e = pred (ctbStart a x + a .ctb) in
       let s = split a ok x u e (omega (arith, ok .big)) (p .toward) (p .high) (p .inPicture) (p .clear) ne in
       over e (record {
-        atRim = refl;
+        atEnd = refl;
         inner = s .left;
         low = omega arith;
         high = s .right .inU;
