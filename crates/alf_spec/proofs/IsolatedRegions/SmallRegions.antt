@@ -33,7 +33,7 @@ abbrev pub twoSubpictures : Layout
 twoSubpictures = subpictures 0
 
 -- 16 by 8 luma samples, one CTB, with these virtual columns; and its left block
-abbrev twoBlocks : List ℕ → Layout
+abbrev pub twoBlocks : List ℕ → Layout
 twoBlocks columns = layout (picture 16 8 5 8 0 1) columns (0 ∷ []) (0 ∷ []) (0 ∷ []) (0 ∷ []) (replicate 64 1)
 
 abbrev leftBlock : List ℕ

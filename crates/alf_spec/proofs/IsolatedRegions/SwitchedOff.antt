@@ -1,5 +1,5 @@
--- 01: the area of a slice, tile or subpicture "is shut whenever, respectively, the slice switch, the tile switch or that number's switch byte
--- is off". Assumes nothing.
+-- A slice, a tile or a subpicture is an isolated region whenever, respectively, the slice switch, the tile switch or that subpicture's switch is
+-- off (01: its area "is shut whenever ..", with the corner rules of the slice and subpicture maps). Assumes nothing.
 use mathlib.Core.Path.{_≡_, refl, sym, ap, _∙_}
 use mathlib.Core.Bool.{Bool, true, false, not, _&&_}
 use Prim.Native.Nat.{ℕ}

@@ -1,0 +1,97 @@
+-- What the rules give beside each kind of border, worked out: where a read is moved to, which maps are rejected, which regions are isolated.
+-- Assumes nothing.
+use mathlib.Core.Path.{_≡_, refl}
+use mathlib.Core.Bool.{true, false}
+use mathlib.Core.List.{List, [], _∷_, map}
+use Prim.Native.Nat.{ℕ}
+use lib.ListN.{replicate}
+use Rattle.alf_spec.specs.Input.{Layout, classes}
+use Rattle.alf_spec.specs.Lists.{allBelow, everyFrom, elem, tabulate}
+use Rattle.alf_spec.specs.Geometry.{ctbSize, planeOf, lumaPlane}
+use Rattle.alf_spec.specs.Boundary.{sliceOf, subpicOf, tileColumnOf, tileRowOf, tileDisables, sliceDisables, subpicDisables, columnDisabled, rowDisabled, cornerDisabled, find, lineClip, virtualClip, sideClip, clipPosition}
+use Rattle.alf_spec.specs.Padding.{columnClip, rowClip, pastCorner, paddedColumn, paddedRow}
+use Rattle.alf_spec.specs.Isolation.{openStep, columnStep, rowStep, diagonalStep, inside, staysInside, isolated, regionOf, sliceRegion, tileRegion, subpicRegion, outputInside}
+use Rattle.alf_spec.specs.Faults.{pictureSizeValid, ctbSizeValid, bitDepthValid, chromaFormatValid, layoutLengthsValid, virtualListValid, virtualBoundariesValid, followsAt, tileListValid, tilesValid, cornerAt, cornersInRow, cornersValid, slicesValid, subpicturesValid, regionLengthValid, regionValid, unless, sizesFault, boundariesFault, isolationFault}
+use Rattle.alf_spec.proofs.Examples.{picture, layout}
+use Rattle.alf_spec.proofs.IsolatedRegions.SmallRegions.{twoSubpictures, twoBlocks}
+
+-- ---- layouts, each with CTBs of 32
+
+-- the subpictures of `subpictures`, both switches off
+abbrev closed : Layout
+closed = layout (picture 64 8 5 8 0 1) [] (0 ∷ 0 ∷ []) (0 ∷ []) (0 ∷ 0 ∷ []) (0 ∷ 1 ∷ []) (replicate 64 0)
+
+-- two by two CTBs, 40 by 40 samples, with a slice and a subpicture map; the slice switch is off, all subpicture switches are on
+abbrev four : List ℕ → List ℕ → Layout
+four slices subpics = layout (picture 40 40 5 8 0 2) [] (0 ∷ 0 ∷ []) (0 ∷ 0 ∷ []) slices subpics (replicate 64 1)
+
+-- the CTB down-right of another slice
+abbrev cornered : Layout
+cornered = four (0 ∷ 0 ∷ 0 ∷ 1 ∷ []) (replicate 4 0)
+
+-- two CTBs one above the other, 8 by 40 samples, in two slices
+abbrev stackedSlices : Layout
+stackedSlices = layout (picture 8 40 5 8 0 2) [] (0 ∷ []) (0 ∷ 0 ∷ []) (0 ∷ 1 ∷ []) (0 ∷ 0 ∷ []) (replicate 64 1)
+
+-- in two tiles, with the tile switch off
+abbrev stackedTiles : Layout
+stackedTiles =
+    layout (record {
+      width = 8;
+      height = 40;
+      «ctb_log2» = 5;
+      «bit_depth» = 8;
+      «chroma_format» = 0;
+      «slice_count» = 1;
+      «across_tiles» = false;
+      «across_slices» = true;
+    }) [] (0 ∷ []) (0 ∷ 1 ∷ []) (0 ∷ 0 ∷ []) (0 ∷ 0 ∷ []) (replicate 64 1)
+
+-- ---- what is computed
+
+-- the column that is read for the luma sample at column x, row 0, and its neighbour at column p
+abbrev column : Layout → ℕ → ℕ → ℕ
+column l x p = paddedColumn l (lumaPlane l) x 0 p 0
+
+-- the slice map is rejected, or not; the subpicture map
+abbrev slices : List ℕ → ℕ
+slices m = isolationFault (four m (replicate 4 0)) (replicate 25 0)
+
+abbrev subpics : List ℕ → ℕ
+subpics m = isolationFault (four (replicate 4 0) m) (replicate 25 0)
+
+pub record Borders : Type 0 where
+  -- a virtual boundary at 8: 2 before the sample at 10, 4 after the sample at 4
+  pub virtual-before : column (twoBlocks (8 ∷ [])) 10 7 ≡ 8
+  pub virtual-after : column (twoBlocks (8 ∷ [])) 4 10 ≡ 7
+  -- a disabled side at 32: the sample at 34 is the last with x < 3 in its CTB, the one at 28 the first with S − x < 5
+  pub side-before : column closed 34 31 ≡ 32
+  pub side-after : column closed 28 34 ≡ 31
+  -- the CTB down-right is of another slice: (32, 32), a neighbour of (31, 31), becomes (31, 32)
+  pub lower-right : paddedColumn cornered (lumaPlane cornered) 31 31 32 32 ∷ paddedRow cornered (lumaPlane cornered) 31 31 32 32 ∷ [] ≡ 31 ∷ 32 ∷ []
+  -- b or c different is forbidden for slices; any one different for subpictures
+  pub slice-maps : map slices ((1 ∷ 0 ∷ 0 ∷ 0 ∷ []) ∷ (0 ∷ 1 ∷ 0 ∷ 0 ∷ []) ∷ (0 ∷ 0 ∷ 1 ∷ 0 ∷ []) ∷ (0 ∷ 0 ∷ 0 ∷ 1 ∷ []) ∷ []) ≡ 0 ∷ 8 ∷ 8 ∷ 0 ∷ []
+  pub subpic-maps : map subpics ((1 ∷ 0 ∷ 0 ∷ 0 ∷ []) ∷ (0 ∷ 1 ∷ 0 ∷ 0 ∷ []) ∷ (0 ∷ 0 ∷ 1 ∷ 0 ∷ []) ∷ (0 ∷ 0 ∷ 0 ∷ 1 ∷ []) ∷ []) ≡ 9 ∷ 9 ∷ 9 ∷ 9 ∷ []
+  -- the step down-right into another slice is not open, nor a diagonal step over a disabled side
+  pub slice-around : isolated cornered (sliceRegion cornered 0) ≡ true
+  pub upper-slice : isolated stackedSlices (sliceRegion stackedSlices 0) ≡ true
+  -- tiles differ by their row too
+  pub upper-tile : isolated stackedTiles (tileRegion stackedTiles 0 0) ≡ true
+  -- the class at entry 7 of a row lies at luma column 28, that at entry 8 at column 32
+  pub classes-inside : map (outputInside classes twoSubpictures (subpicRegion twoSubpictures 0)) (7 ∷ 8 ∷ []) ≡ true ∷ false ∷ []
+
+pub borders : Borders
+unfolding allBelow everyFrom elem tabulate ctbSize planeOf sliceOf subpicOf tileColumnOf tileRowOf tileDisables sliceDisables subpicDisables columnDisabled rowDisabled cornerDisabled find lineClip virtualClip sideClip clipPosition columnClip rowClip pastCorner paddedColumn paddedRow openStep columnStep rowStep diagonalStep inside staysInside isolated regionOf sliceRegion tileRegion subpicRegion outputInside pictureSizeValid ctbSizeValid bitDepthValid chromaFormatValid layoutLengthsValid virtualListValid virtualBoundariesValid followsAt tileListValid tilesValid cornerAt cornersInRow cornersValid slicesValid subpicturesValid regionLengthValid regionValid unless sizesFault boundariesFault isolationFault
+borders = record {
+  virtual-before = refl;
+  virtual-after = refl;
+  side-before = refl;
+  side-after = refl;
+  lower-right = refl;
+  slice-maps = refl;
+  subpic-maps = refl;
+  slice-around = refl;
+  upper-slice = refl;
+  upper-tile = refl;
+  classes-inside = refl;
+}
