@@ -1,3 +1,4 @@
 -- Laws that the proofs of this crate, and of those above it, cite.
 pub mod Gradients
+pub mod Grids
 pub mod Magnitude

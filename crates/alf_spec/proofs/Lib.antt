@@ -7,6 +7,7 @@ pub mod Lists
 pub mod Planes
 pub mod Rejections
 pub mod RewrittenOutside
+pub mod Scans
 pub mod SmallPictures
 pub mod TapOrder
 pub mod Tests

@@ -1,10 +1,10 @@
 -- Laws of tests: of their connectives, and what a test of every number, or of every entry of a list, says of one of them. Assumes nothing.
-use mathlib.Core.Path.{_≡_, refl, _∙_, ap}
+use mathlib.Core.Path.{_≡_, refl, sym, _∙_, ap}
 use mathlib.Core.Bool.{Bool, true, false, _&&_, _||_, cond, true≢false, false≢true}
 use mathlib.Core.List.{List, [], _∷_, List·Memᴰ, List·Memᴰ·not-nil, List·Memᴰ·cases-cons}
 use mathlib.Core.Logic.{⊎-elim}
-use Prim.Native.Nat.{ℕ, zero, suc, _+_, _<_}
-use native.Mathlib.Nat.{add-zero, add-suc, suc-add, not-suc-le-zero, le-of-suc-le-suc, eq-or-lt-of-le}
+use Prim.Native.Nat.{ℕ, zero, suc, _+_, _<_, suc-le-suc}
+use native.Mathlib.Nat.{add-zero, add-suc, suc-add, not-suc-le-zero, le-of-suc-le-suc, zero-lt-suc, eq-or-lt-of-le}
 use native.Mathlib.Omega.{arith}
 use lib.ListN.{length, getD}
 use Rattle.alf_spec.specs.Lists.{implies, allBelow, everyFrom}
@@ -34,6 +34,12 @@ pub imply : (a b : Bool) → (a ≡ true → b ≡ true) → implies a b ≡ tru
 imply true b f = f refl
 imply false b f = refl
 
+-- two tests that pass in the same cases
+pub same-test : (a b : Bool) → (a ≡ true → b ≡ true) → (b ≡ true → a ≡ true) → a ≡ b
+same-test true b f g = sym (f refl)
+same-test false true f g = g refl
+same-test false false f g = refl
+
 -- what holds of both branches
 pub cond-either : {A : Type 0} (P : A → Type 0) (b : Bool) (x y : A) → P x → P y → P (cond b x y)
 cond-either P true x y p q = p
@@ -60,6 +66,13 @@ every-at d k test [] e j h = absurd (not-suc-le-zero h)
 every-at d k test (x ∷ xs) e zero h = rw add-zero (both (test k x) (everyFrom (suc k) test xs) e .0)
 every-at d k test (x ∷ xs) e (suc j) h =
     rw (add-suc, ← suc-add) (every-at d (suc k) test xs (both (test k x) (everyFrom (suc k) test xs) e .1) j (le-of-suc-le-suc h))
+
+pub at-every : {A : Type 0} (d : A) (k : ℕ) (test : ℕ → A → Bool) (xs : List A) → ((j : ℕ) → j < length xs → test (k + j) (getD xs j d) ≡ true)
+    → everyFrom k test xs ≡ true
+unfolding everyFrom
+at-every d k test [] f = refl
+at-every d k test (x ∷ xs) f =
+    simp (rw add-zero at (f zero (zero-lt-suc (length xs))), at-every d (suc k) test xs (λ j h. rw (suc-add, ← add-suc) (f (suc j) (suc-le-suc h))))
 
 pub every-mem : (test : ℕ → Bool) (k : ℕ) (xs : List ℕ) → everyFrom k (λ _ x. test x) xs ≡ true → (v : ℕ) → List·Memᴰ v xs → test v ≡ true
 unfolding everyFrom

@@ -1,6 +1,6 @@
 -- What the operations are given (01: What is lent). Assumes nothing.
 use mathlib.Core.Bool.{Bool, true, false}
-use mathlib.Core.List.{List}
+use mathlib.Core.List.{List, []}
 use Prim.Native.Nat.{ℕ}
 use lib.IntN.{ℤ}
 use Rattle.alf_spec.specs.declared.Picture.{Picture}
@@ -18,6 +18,19 @@ pub record Layout : Type 0 where
   pub subpicMap : List ℕ
   -- by subpicture: 1 filters across its sides
   pub subpicAcross : List ℕ
+
+-- the layout of these parts, in the order in which every operation is given them
+abbrev pub layoutOf : Picture → List ℕ → List ℕ → List ℕ → List ℕ → List ℕ → List ℕ → List ℕ → Layout
+layoutOf picture virtualColumns virtualRows tileColumns tileRows sliceMap subpicMap subpicAcross = record {
+  picture = picture;
+  virtualColumns = virtualColumns;
+  virtualRows = virtualRows;
+  tileColumns = tileColumns;
+  tileRows = tileRows;
+  sliceMap = sliceMap;
+  subpicMap = subpicMap;
+  subpicAcross = subpicAcross;
+}
 
 -- the operations that have a plane or a class map for their output; a component is 0 (Cb) or 1 (Cr)
 pub data Operation : Type 0 where
@@ -60,3 +73,35 @@ pub record Input : Type 0 where
   pub fixedMap : List ℕ
   -- how many entries the output has
   pub outputLength : ℕ
+
+-- ---- the input of each operation, in the order in which it is given; what it is not given is empty
+
+-- an input of all its parts
+abbrev pub inputOf : Layout → List ℕ → List ℕ → List ℕ → List ℤ → List ℕ → List ℕ → List ℤ → List ℕ → ℕ → Input
+inputOf l lumaSamples chromaSamples sliceParams bank ctbParams ctbList fixedFilters fixedMap outputLength = record {
+  layout = l;
+  luma = lumaSamples;
+  chroma = chromaSamples;
+  sliceParams = sliceParams;
+  bank = bank;
+  ctbParams = ctbParams;
+  ctbList = ctbList;
+  fixedFilters = fixedFilters;
+  fixedMap = fixedMap;
+  outputLength = outputLength;
+}
+
+abbrev pub classesInput : Layout → List ℕ → ℕ → Input
+classesInput l lumaSamples outputLength = inputOf l lumaSamples [] [] [] [] [] [] [] outputLength
+
+abbrev pub lumaInput : Layout → List ℕ → List ℤ → List ℕ → List ℕ → List ℤ → List ℕ → List ℕ → ℕ → Input
+lumaInput l sliceParams bank ctbParams ctbList fixedFilters fixedMap lumaSamples outputLength =
+    inputOf l lumaSamples [] sliceParams bank ctbParams ctbList fixedFilters fixedMap outputLength
+
+abbrev pub chromaInput : Layout → List ℕ → List ℤ → List ℕ → List ℕ → List ℕ → ℕ → Input
+chromaInput l sliceParams bank ctbParams ctbList chromaSamples outputLength =
+    inputOf l [] chromaSamples sliceParams bank ctbParams ctbList [] [] outputLength
+
+abbrev pub crossInput : Layout → List ℕ → List ℤ → List ℕ → List ℕ → List ℕ → List ℕ → ℕ → Input
+crossInput l sliceParams bank ctbParams ctbList lumaSamples chromaSamples outputLength =
+    inputOf l lumaSamples chromaSamples sliceParams bank ctbParams ctbList [] [] outputLength

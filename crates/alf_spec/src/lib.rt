@@ -53,10 +53,29 @@ pub enum Isolation {
     Rejected(Fault),
 }
 
+// A picture's CTB grid: the side of a CTB in luma samples, and how many CTBs there are in a row and in a column.
+pub struct Grid {
+    pub ctb: u32,
+    pub columns: u32,
+    pub rows: u32,
+}
+
 // A CTB by its place in the grid.
 pub struct Ctb {
     pub column: u32,
     pub row: u32,
+}
+
+// A CTB's sides and corners: true where filtering across is disabled (01: closed). The corners are judged by slices alone.
+pub struct Sides {
+    pub left: bool,
+    pub right: bool,
+    pub top: bool,
+    pub bottom: bool,
+    // clipTopLeftFlag
+    pub upper_left: bool,
+    // clipBotRightFlag
+    pub lower_right: bool,
 }
 
 // The rows of a class window that count, as the first (row r stands at offset r − 3) and how many, and the activity factor.

@@ -1,0 +1,35 @@
+-- The isolation test by 8 by 8 blocks: what the code tests, which `proofs/Blocks` shows to be the definition over all samples. Assumes nothing.
+use mathlib.Core.Bool.{Bool, _&&_}
+use mathlib.Core.List.{List}
+use Prim.Native.Nat.{ℕ, _+_, _*_}
+use lib.Dec.{eqb}
+use lib.ListN.{getD}
+use Rattle.alf_spec.specs.Lists.{implies, allBelow}
+use Rattle.alf_spec.specs.Input.{Layout}
+use Rattle.alf_spec.specs.Geometry.{Side, before, after, next, samples, blockPlane, indexOf}
+use Rattle.alf_spec.specs.Isolation.{columnStep, rowStep, diagonalStep, bothSides}
+
+-- the first or the last sample of block b along an axis
+abbrev pub edge : Side → ℕ → ℕ
+edge before b = 8 * b
+edge after b = 8 * b + 7
+
+module _ (l : Layout) (region : List ℕ) where
+  -- the block at this column and row of blocks is in the region
+  unfoldable pub blockInside : ℕ → ℕ → Bool
+  blockInside x y = eqb (getD region (indexOf (blockPlane l) x y) 0) 1
+
+  -- no open step goes from the block to a block outside: across its four sides and its four corners
+  unfoldable pub blockStays : ℕ → ℕ → Bool
+  blockStays x y =
+      bothSides (λ d. implies (columnStep l (edge d x) (edge before y) d) (blockInside (next d x) y))
+      && (bothSides (λ e. implies (rowStep l (edge before x) (edge e y) e) (blockInside x (next e y)))
+      && bothSides (λ d. bothSides (λ e. implies (diagonalStep l (edge d x) (edge e y) d e) (blockInside (next d x) (next e y)))))
+
+  -- of a block in the region
+  unfoldable pub blockPasses : ℕ → ℕ → Bool
+  blockPasses x y = implies (blockInside x y) (blockStays x y)
+
+  -- of every block
+  unfoldable pub blocksPass : Bool
+  blocksPass = allBelow (samples (blockPlane l .rows)) (λ y. allBelow (samples (blockPlane l .columns)) (λ x. blockPasses x y))

@@ -1,0 +1,2 @@
+// Where filtering stops: the sides of a CTB across which it is disabled, the clip positions and padded positions of a sample, and the
+// isolation test. Each equals its definition of `alf_spec`.

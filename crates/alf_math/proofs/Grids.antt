@@ -1,0 +1,90 @@
+-- Laws of the CTB grid. Assumes nothing.
+use mathlib.Core.Path.{_≡_, _∙_}
+use mathlib.Core.Bool.{Bool, true}
+use Prim.Native.Nat.{ℕ, suc, _+_, _-_, _*_, _/_, _%_, _^_, _≤_, _<_}
+use native.Mathlib.Nat.{one-mul, mod-eq-of-lt, le-div-iff-mul-le, div-lt-iff-lt-mul}
+use native.Mathlib.Omega.{arith}
+use lib.Dec.{eqb, leb}
+use lib.Pow.{pow-lt, pow-mono}
+use borrow.Author.Tests.{leb-true}
+use Rattle.alf_spec.specs.declared.Picture.{Picture}
+use Rattle.alf_spec.specs.declared.Grid.{Grid}
+use Rattle.alf_spec.specs.Lists.{within}
+use Rattle.alf_spec.specs.Input.{Layout}
+use Rattle.alf_spec.specs.Geometry.{ctbSize, planeOf, ctbColumns, ctbRows, ctbTotal}
+use Rattle.alf_spec.specs.Faults.{sizeValid, pictureSizeValid, ctbSizeValid}
+use Rattle.alf_spec.proofs.Tests.{both}
+use Rattle.alf_math.specs.Grids.{ctbsAlong, GridOf}
+
+-- 1 << CtbLog2SizeY
+pub shifted : (n : ℕ) → n ≤ 7 → (1 * 2 ^ n) % (2 ^ 32) ≡ 2 ^ n
+shifted n h = rw one-mul (mod-eq-of-lt (pow-lt {j = 32} (omega arith)))
+
+-- the CTBs along 8 to 4,096 samples
+pub along-bounds : (s n : ℕ) → (32 ≤ s) × (s ≤ 128) → (8 ≤ n) × (n ≤ 4096) → (0 < (n + (s - 1)) / s) × ((n + (s - 1)) / s ≤ 128)
+along-bounds s n hs hn =
+    let few : (n + (s - 1)) / s < 129 = div-lt-iff-lt-mul {k = s} (omega arith) .1 (omega arith) in
+    (le-div-iff-mul-le {k = s} (omega arith) .1 (omega arith), omega arith)
+
+-- what an accepted picture says of its sizes
+module _ (p : Picture) (sizes : pictureSizeValid p ≡ true) (log2 : ctbSizeValid p ≡ true) where
+  bounded : (n : ℕ) → sizeValid n ≡ true → (8 ≤ n) × (n ≤ 4096)
+  bounded n e =
+      let h = both (leb 8 n) (leb n 4096) (both (eqb (n % 8) 0) (within 8 4096 n) e .1) in
+      (leb-true 8 n (h .0), leb-true n 4096 (h .1))
+
+  pub width-bounds : (8 ≤ p .width) × (p .width ≤ 4096)
+  unfolding pictureSizeValid
+  width-bounds = bounded (p .width) (both (sizeValid (p .width)) (sizeValid (p .height)) sizes .0)
+
+  pub height-bounds : (8 ≤ p .height) × (p .height ≤ 4096)
+  unfolding pictureSizeValid
+  height-bounds = bounded (p .height) (both (sizeValid (p .width)) (sizeValid (p .height)) sizes .1)
+
+  pub log2-bounds : (5 ≤ p .«ctb_log2») × (p .«ctb_log2» ≤ 7)
+  unfolding ctbSizeValid
+  log2-bounds =
+      let h = both (leb 5 (p .«ctb_log2»)) (leb (p .«ctb_log2») 7) log2 in
+      (leb-true 5 (p .«ctb_log2») (h .0), leb-true (p .«ctb_log2») 7 (h .1))
+
+  pub ctb-bounds : (32 ≤ ctbSize p) × (ctbSize p ≤ 128)
+  unfolding ctbSize
+  ctb-bounds = (pow-mono (log2-bounds .0), pow-mono (log2-bounds .1))
+
+  -- of the CTB's side
+  module _ (ctb : ℕ) (side : ctb ≡ 2 ^ p .«ctb_log2») where
+    pub side-bounds : (0 < ctb) × (ctb ≤ 128)
+    unfolding ctbSize
+    side-bounds = omega (arith, ctb-bounds)
+
+    pub grid-of : (columns rows : ℕ) → columns ≡ (p .width + (ctb - 1)) / ctb → rows ≡ (p .height + (ctb - 1)) / ctb
+        → GridOf p (record { ctb = ctb; columns = columns; rows = rows })
+    unfolding ctbSize ctbsAlong
+    grid-of columns rows wide high =
+        let s : (32 ≤ ctb) × (ctb ≤ 128) = rw side ctb-bounds in
+        let w = along-bounds ctb (p .width) s width-bounds in
+        let h = along-bounds ctb (p .height) s height-bounds in
+        record {
+          ctb = side;
+          columns = wide ∙ rw side;
+          rows = high ∙ rw side;
+          ctbLow = s .0;
+          ctbHigh = s .1;
+          columnsLow = rw wide (w .0);
+          columnsHigh = rw wide (w .1);
+          rowsLow = rw high (h .0);
+          rowsHigh = rw high (h .1);
+        }
+
+-- the grid's numbers are the layout's
+module _ (l : Layout) (g : Grid) (h : GridOf (l .picture) g) where
+  pub grid-columns : g .columns ≡ ctbColumns l
+  unfolding ctbsAlong planeOf
+  grid-columns = h .columns
+
+  pub grid-rows : g .rows ≡ ctbRows l
+  unfolding ctbsAlong planeOf
+  grid-rows = h .rows
+
+  pub grid-total : g .columns * g .rows ≡ ctbTotal l
+  grid-total = rw (grid-columns, grid-rows)

@@ -1,0 +1,37 @@
+// The CTB grid of a picture.
+ghost use mathlib.Core.Path.{_≡_};
+ghost use mathlib.Core.Bool.{true};
+ghost use Prim.Native.Nat.{_+_, _-_, _/_, _^_, _≤_, _<_};
+ghost use Rattle.alf_spec.specs.Faults.{pictureSizeValid, ctbSizeValid};
+ghost use Rattle.alf_math.specs.Grids.{GridOf};
+use alf_spec::Grid;
+use alf_spec::Picture;
+
+// CtbSizeY
+fn ctb_size(ctb_log2: u8) -> u32
+    requires { ⌜ (5 ≤ «ctb_log2») × («ctb_log2» ≤ 7) ⌝ }
+    ensures { λ r. ⌜ r ≡ 2 ^ «ctb_log2» ⌝ }
+{
+    1 << ctb_log2
+}
+
+// The CTBs along so many samples, the last one whole or not.
+fn along(samples: u32, ctb: u32) -> u32
+    requires { ⌜ (samples ≤ 4096) × (0 < ctb) × (ctb ≤ 128) ⌝ }
+    ensures { λ r. ⌜ r ≡ (samples + (ctb - 1)) / ctb ⌝ }
+{
+    (samples + (ctb - 1)) / ctb
+}
+
+// CtbSizeY, PicWidthInCtbsY and PicHeightInCtbsY
+pub fn grid(picture: Picture) -> Grid
+    requires { ⌜ (pictureSizeValid picture ≡ true) × (ctbSizeValid picture ≡ true) ⌝ }
+    ensures { λ g. ⌜ GridOf picture g ⌝ }
+{
+    let ctb = ctb_size(picture.ctb_log2);
+    Grid {
+        ctb: ctb,
+        columns: along(picture.width, ctb),
+        rows: along(picture.height, ctb),
+    }
+}
