@@ -10,8 +10,8 @@ use borrow.Author.Tests.{leb-true, eqb-true}
 use Rattle.alf_spec.specs.declared.Picture.{Picture}
 use Rattle.alf_spec.specs.Lists.{implies}
 use Rattle.alf_spec.specs.Input.{Layout, Operation, given, Input}
-use Rattle.alf_spec.specs.Geometry.{lumaPlane, chromaPlane, planeLength}
-use Rattle.alf_spec.specs.Faults.{pictureSizeValid, ctbSizeValid, bitDepthValid, chromaFormatValid, componentValid, layoutLengthsValid, filterLengthsValid, fixedLengthsValid, lengthsValid, regionLengthValid, virtualBoundariesValid, tilesValid, slicesValid, subpicturesValid, regionValid, unless, sizesFault, boundariesFault, tablesFault, fault, isolationFault}
+use Rattle.alf_spec.specs.Geometry.{lumaPlane, chromaPlane, blockPlane, planeLength}
+use Rattle.alf_spec.specs.Faults.{pictureSizeValid, ctbSizeValid, bitDepthValid, chromaFormatValid, componentValid, layoutLengthsValid, filterLengthsValid, fixedLengthsValid, lengthsValid, regionLengthValid, virtualBoundariesValid, tilesValid, slicesValid, subpicturesValid, regionValid, unless, layoutFault, tablesFault, fault, isolationFault}
 use Rattle.alf_spec.proofs.Tests.{both, implied}
 
 -- of a chain of tests that gives no number, the first passes, and what follows gives none
@@ -31,48 +31,50 @@ pub record Accepted (l : Layout) : Type 0 where
   pub slices : slicesValid l ≡ true
   pub subpictures : subpicturesValid l ≡ true
 
-module _ (l : Layout) (own : Bool) (rest : ℕ) where
-  -- 1 to 3, a test of 4, 5 with a test of the operation's own, 6 to 9
-  chain : (four : Bool) → sizesFault (l .picture) (unless four 4 (unless (layoutLengthsValid l && own) 5 (boundariesFault l rest))) ≡ 0
-      → Accepted l × (four ≡ true) × (own ≡ true)
-  unfolding sizesFault boundariesFault
-  chain four q =
-      let p1 = passed (pictureSizeValid (l .picture)) 0 _ q in
-      let p2 = passed (ctbSizeValid (l .picture)) 1 _ (p1 .1) in
-      let p3 = passed (bitDepthValid (l .picture)) 2 _ (p2 .1) in
-      let p4 = passed four 3 _ (p3 .1) in
-      let p5 = passed (layoutLengthsValid l && own) 4 _ (p4 .1) in
-      let lengths = both (layoutLengthsValid l) own (p5 .0) in
-      let p6 = passed (virtualBoundariesValid l) 5 _ (p5 .1) in
-      let p7 = passed (tilesValid l) 6 _ (p6 .1) in
-      let p8 = passed (slicesValid l) 7 _ (p7 .1) in
-      let p9 = passed (subpicturesValid l) 8 _ (p8 .1) in (
-        record {
-          sizes = p1 .0;
-          ctbSize = p2 .0;
-          bitDepth = p3 .0;
-          lengths = lengths .0;
-          virtualBoundaries = p6 .0;
-          tiles = p7 .0;
-          slices = p8 .0;
-          subpictures = p9 .0;
-        },
-        p4 .0,
-        lengths .1,
-      )
+-- what the operation's own tests of 4 and 5 say, too
+chain : (l : Layout) (component lengths : Bool) (rest : ℕ) → layoutFault l component lengths rest ≡ 0 → Accepted l × (component ≡ true) × (lengths ≡ true)
+unfolding layoutFault
+chain l component lengths rest q =
+    let p1 = passed (pictureSizeValid (l .picture)) 0 _ q in
+    let p2 = passed (ctbSizeValid (l .picture)) 1 _ (p1 .1) in
+    let p3 = passed (bitDepthValid (l .picture)) 2 _ (p2 .1) in
+    let p4 = passed (chromaFormatValid (l .picture) && component) 3 _ (p3 .1) in
+    let p5 = passed (layoutLengthsValid l && lengths) 4 _ (p4 .1) in
+    let p6 = passed (virtualBoundariesValid l) 5 _ (p5 .1) in
+    let p7 = passed (tilesValid l) 6 _ (p6 .1) in
+    let p8 = passed (slicesValid l) 7 _ (p7 .1) in
+    let p9 = passed (subpicturesValid l) 8 _ (p8 .1) in
+    let four = both (chromaFormatValid (l .picture)) component (p4 .0) in
+    let five = both (layoutLengthsValid l) lengths (p5 .0) in (
+      record {
+        sizes = p1 .0;
+        ctbSize = p2 .0;
+        bitDepth = p3 .0;
+        lengths = five .0;
+        virtualBoundaries = p6 .0;
+        tiles = p7 .0;
+        slices = p8 .0;
+        subpictures = p9 .0;
+      },
+      four .1,
+      five .1,
+    )
 
 -- an input that an operation accepts
 pub accepted : (op : Operation) (i : Input) → fault op i ≡ 0
     → Accepted (i .layout) × (componentValid op (i .layout .picture) ≡ true) × (lengthsValid op i ≡ true)
 unfolding fault
-accepted op i q =
-    let c = chain (i .layout) (lengthsValid op i) (tablesFault op i) (chromaFormatValid (i .layout .picture) && componentValid op (i .layout .picture)) q in
-    (c .0, both (chromaFormatValid (i .layout .picture)) _ (c .1) .1, c .2)
+accepted op i q = chain (i .layout) (componentValid op (i .layout .picture)) (lengthsValid op i) (tablesFault op i) q
 
 -- a layout that the isolation test accepts
 pub accepted-layout : (l : Layout) (region : List ℕ) → isolationFault l region ≡ 0 → Accepted l
 unfolding isolationFault
-accepted-layout l region q = chain l (regionLengthValid l region) (unless (regionValid region) 14 0) (chromaFormatValid (l .picture)) q .0
+accepted-layout l region q = chain l true (regionLengthValid l region) (unless (regionValid region) 14 0) q .0
+
+-- and its region
+pub accepted-region : (l : Layout) (region : List ℕ) → isolationFault l region ≡ 0 → length region ≡ planeLength (blockPlane l)
+unfolding isolationFault regionLengthValid
+accepted-region l region q = eqb-true (length region) _ (chain l true (regionLengthValid l region) (unless (regionValid region) 14 0) q .2)
 
 -- a component is 0 or 1: cause 4 of the chroma and of the cross-component filter
 pub component-of : (p : Picture) (component : ℕ) → (not (eqb (p .«chroma_format») 0) && leb component 1) ≡ true → component ≤ 1

@@ -11,7 +11,7 @@ use Rattle.alf_spec.specs.Lists.{allBelow, everyFrom}
 use Rattle.alf_spec.specs.Geometry.{ctbSize, subWidth, subHeight, planeOf}
 use Rattle.alf_spec.specs.Boundary.{sliceOf}
 use Rattle.alf_spec.specs.Parameters.{ctbParam, sliceParam}
-use Rattle.alf_spec.specs.Faults.{sizeValid, pictureSizeValid, ctbSizeValid, bitDepthValid, chromaFormatValid, componentValid, layoutLengthsValid, filterLengthsValid, fixedLengthsValid, lengthsValid, apartAt, virtualListValid, virtualBoundariesValid, followsAt, tileListValid, tilesValid, cornerAt, cornersInRow, cornersValid, slicesValid, subpicturesValid, sliceParamsValid, ctbRangesValid, ctbChromaZero, ctbParamsValidAt, parametersValid, coeffValid, clipValid, isClip, bankNumberValid, bankValid, fixedValid, samplesValid, addressesValid, regionLengthValid, regionValid, unless, sizesFault, boundariesFault, tablesFault, fault, isolationFault}
+use Rattle.alf_spec.specs.Faults.{sizeValid, pictureSizeValid, ctbSizeValid, bitDepthValid, chromaFormatValid, componentValid, layoutLengthsValid, filterLengthsValid, fixedLengthsValid, lengthsValid, apartAt, virtualListValid, virtualBoundariesValid, followsAt, tileListValid, tilesValid, cornerAt, cornersInRow, cornersValid, slicesValid, subpicturesValid, sliceParamsValid, ctbRangesValid, ctbChromaZero, ctbParamsValidAt, parametersValid, coeffValid, clipValid, isClip, bankNumberValid, bankValid, fixedValid, samplesValid, addressesValid, regionLengthValid, regionValid, unless, layoutFault, tablesFault, fault, isolationFault}
 use Rattle.alf_spec.proofs.Examples.{picture, layout}
 
 -- ---- a picture of two by two CTBs of 32, of which a number or a list can be chosen
@@ -96,7 +96,7 @@ pub record Rejections : Type 0 where
   pub lowest : fault luma (inputOf (plain (sized 12 8 13 2 0)) [] [] [] [] (9 ∷ []) 0) ≡ 1
 
 pub rejections : Rejections
-unfolding allBelow everyFrom ctbSize subWidth subHeight planeOf sliceOf ctbParam sliceParam pictureSizeValid ctbSizeValid bitDepthValid chromaFormatValid componentValid layoutLengthsValid filterLengthsValid fixedLengthsValid lengthsValid apartAt virtualListValid virtualBoundariesValid followsAt tileListValid tilesValid cornerAt cornersInRow cornersValid slicesValid subpicturesValid sliceParamsValid ctbRangesValid ctbChromaZero ctbParamsValidAt parametersValid coeffValid clipValid isClip bankNumberValid bankValid fixedValid samplesValid addressesValid regionLengthValid regionValid unless sizesFault boundariesFault tablesFault fault isolationFault
+unfolding allBelow everyFrom ctbSize subWidth subHeight planeOf sliceOf ctbParam sliceParam pictureSizeValid ctbSizeValid bitDepthValid chromaFormatValid componentValid layoutLengthsValid filterLengthsValid fixedLengthsValid lengthsValid apartAt virtualListValid virtualBoundariesValid followsAt tileListValid tilesValid cornerAt cornersInRow cornersValid slicesValid subpicturesValid sliceParamsValid ctbRangesValid ctbChromaZero ctbParamsValidAt parametersValid coeffValid clipValid isClip bankNumberValid bankValid fixedValid samplesValid addressesValid regionLengthValid regionValid unless layoutFault tablesFault fault isolationFault
 rejections = record {
   widths = refl;
   accepts = refl;

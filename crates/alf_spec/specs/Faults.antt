@@ -227,20 +227,18 @@ unfoldable pub unless : Bool → ℕ → ℕ → ℕ
 unless true n rest = rest
 unless false n rest = n
 
--- 1 to 3, for every operation
-unfoldable pub sizesFault : Picture → ℕ → ℕ
-sizesFault p rest =
-    unless (pictureSizeValid p) 1
-    (unless (ctbSizeValid p) 2
-    (unless (bitDepthValid p) 3 rest))
-
--- 6 to 9, for every operation
-unfoldable pub boundariesFault : Layout → ℕ → ℕ
-boundariesFault l rest =
-    unless (virtualBoundariesValid l) 6
+-- 1 to 9, the layout's: every operation is given it. 4 and 5 have a test of the operation's own.
+unfoldable pub layoutFault : Layout → Bool → Bool → ℕ → ℕ
+layoutFault l component lengths rest =
+    unless (pictureSizeValid (l .picture)) 1
+    (unless (ctbSizeValid (l .picture)) 2
+    (unless (bitDepthValid (l .picture)) 3
+    (unless (chromaFormatValid (l .picture) && component) 4
+    (unless (layoutLengthsValid l && lengths) 5
+    (unless (virtualBoundariesValid l) 6
     (unless (tilesValid l) 7
     (unless (slicesValid l) 8
-    (unless (subpicturesValid l) 9 rest)))
+    (unless (subpicturesValid l) 9 rest))))))))
 
 -- 10 to 13: what this operation is given
 unfoldable pub tablesFault : Operation → Input → ℕ
@@ -252,18 +250,8 @@ tablesFault op i =
 
 -- 0 where the operation accepts the input
 unfoldable pub fault : Operation → Input → ℕ
-fault op i =
-    sizesFault (i .layout .picture)
-    (unless (chromaFormatValid (i .layout .picture) && componentValid op (i .layout .picture)) 4
-    (unless (layoutLengthsValid (i .layout) && lengthsValid op i) 5
-    (boundariesFault (i .layout)
-    (tablesFault op i))))
+fault op i = layoutFault (i .layout) (componentValid op (i .layout .picture)) (lengthsValid op i) (tablesFault op i)
 
 -- the isolation test's
 unfoldable pub isolationFault : Layout → List ℕ → ℕ
-isolationFault l region =
-    sizesFault (l .picture)
-    (unless (chromaFormatValid (l .picture)) 4
-    (unless (layoutLengthsValid l && regionLengthValid l region) 5
-    (boundariesFault l
-    (unless (regionValid region) 14 0))))
+isolationFault l region = layoutFault l true (regionLengthValid l region) (unless (regionValid region) 14 0)

@@ -11,7 +11,7 @@ use Rattle.alf_spec.specs.Geometry.{ctbSize, planeOf, lumaPlane}
 use Rattle.alf_spec.specs.Boundary.{sliceOf, subpicOf, tileColumnOf, tileRowOf, tileDisables, sliceDisables, subpicDisables, columnDisabled, rowDisabled, cornerDisabled, find, lineClip, virtualClip, sideClip, clipPosition}
 use Rattle.alf_spec.specs.Padding.{columnClip, rowClip, pastCorner, paddedColumn, paddedRow}
 use Rattle.alf_spec.specs.Isolation.{openStep, columnStep, rowStep, diagonalStep, inside, staysInside, isolated, regionOf, sliceRegion, tileRegion, subpicRegion, outputInside}
-use Rattle.alf_spec.specs.Faults.{pictureSizeValid, ctbSizeValid, bitDepthValid, chromaFormatValid, layoutLengthsValid, virtualListValid, virtualBoundariesValid, followsAt, tileListValid, tilesValid, cornerAt, cornersInRow, cornersValid, slicesValid, subpicturesValid, regionLengthValid, regionValid, unless, sizesFault, boundariesFault, isolationFault}
+use Rattle.alf_spec.specs.Faults.{pictureSizeValid, ctbSizeValid, bitDepthValid, chromaFormatValid, layoutLengthsValid, virtualListValid, virtualBoundariesValid, followsAt, tileListValid, tilesValid, cornerAt, cornersInRow, cornersValid, slicesValid, subpicturesValid, regionLengthValid, regionValid, unless, layoutFault, isolationFault}
 use Rattle.alf_spec.proofs.Examples.{picture, layout}
 use Rattle.alf_spec.proofs.IsolatedRegions.SmallRegions.{twoSubpictures, twoBlocks}
 
@@ -81,7 +81,7 @@ pub record Borders : Type 0 where
   pub classes-inside : map (outputInside classes twoSubpictures (subpicRegion twoSubpictures 0)) (7 ∷ 8 ∷ []) ≡ true ∷ false ∷ []
 
 pub borders : Borders
-unfolding allBelow everyFrom elem tabulate ctbSize planeOf sliceOf subpicOf tileColumnOf tileRowOf tileDisables sliceDisables subpicDisables columnDisabled rowDisabled cornerDisabled find lineClip virtualClip sideClip clipPosition columnClip rowClip pastCorner paddedColumn paddedRow openStep columnStep rowStep diagonalStep inside staysInside isolated regionOf sliceRegion tileRegion subpicRegion outputInside pictureSizeValid ctbSizeValid bitDepthValid chromaFormatValid layoutLengthsValid virtualListValid virtualBoundariesValid followsAt tileListValid tilesValid cornerAt cornersInRow cornersValid slicesValid subpicturesValid regionLengthValid regionValid unless sizesFault boundariesFault isolationFault
+unfolding allBelow everyFrom elem tabulate ctbSize planeOf sliceOf subpicOf tileColumnOf tileRowOf tileDisables sliceDisables subpicDisables columnDisabled rowDisabled cornerDisabled find lineClip virtualClip sideClip clipPosition columnClip rowClip pastCorner paddedColumn paddedRow openStep columnStep rowStep diagonalStep inside staysInside isolated regionOf sliceRegion tileRegion subpicRegion outputInside pictureSizeValid ctbSizeValid bitDepthValid chromaFormatValid layoutLengthsValid virtualListValid virtualBoundariesValid followsAt tileListValid tilesValid cornerAt cornersInRow cornersValid slicesValid subpicturesValid regionLengthValid regionValid unless layoutFault isolationFault
 borders = record {
   virtual-before = refl;
   virtual-after = refl;
