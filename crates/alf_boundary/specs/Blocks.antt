@@ -1,12 +1,13 @@
 -- The isolation test by 8 by 8 blocks: what the code tests, which `proofs/Blocks` shows to be the definition over all samples. Assumes nothing.
 use mathlib.Core.Bool.{Bool, _&&_}
 use mathlib.Core.List.{List}
-use Prim.Native.Nat.{ℕ, _+_, _*_}
+use Prim.Native.Nat.{ℕ, _+_, _-_, _*_, _/_, min}
 use lib.Dec.{eqb}
 use lib.ListN.{getD}
+use Rattle.alf_spec.specs.declared.Ctb.{Ctb}
 use Rattle.alf_spec.specs.Lists.{implies, allBelow}
 use Rattle.alf_spec.specs.Input.{Layout}
-use Rattle.alf_spec.specs.Geometry.{Side, before, after, next, samples, blockPlane, indexOf}
+use Rattle.alf_spec.specs.Geometry.{Side, before, after, next, Axis, samples, ctbSize, blockPlane, indexOf}
 use Rattle.alf_spec.specs.Isolation.{columnStep, rowStep, diagonalStep, bothSides}
 
 -- the first or the last sample of block b along an axis
@@ -33,3 +34,14 @@ module _ (l : Layout) (region : List ℕ) where
   -- of every block
   unfoldable pub blocksPass : Bool
   blocksPass = allBelow (samples (blockPlane l .rows)) (λ y. allBelow (samples (blockPlane l .columns)) (λ x. blockPasses x y))
+
+-- the blocks along an axis in the CTB at place q: the last one may not be whole
+unfoldable pub blocksIn : Axis → ℕ → ℕ
+blocksIn a q = min (a .ctb / 8) (samples a - q * (a .ctb / 8))
+
+-- of every block of the CTB c
+unfoldable pub ctbPasses : Layout → List ℕ → Ctb → Bool
+ctbPasses l region c =
+    allBelow (blocksIn (blockPlane l .rows) (c .row)) (λ j.
+    allBelow (blocksIn (blockPlane l .columns) (c .column)) (λ i.
+    blockPasses l region (c .column * (ctbSize (l .picture) / 8) + i) (c .row * (ctbSize (l .picture) / 8) + j)))

@@ -6,12 +6,14 @@ pub mod Clamping
 pub mod ClipPositions
 pub mod CornerRules
 pub mod Crossing
+pub mod EightSteps
 pub mod Held
 pub mod Inside
 pub mod PastCtb
 pub mod Ratios
 pub mod Reach
 pub mod Reads
+pub mod RegionsAccepted
 pub mod Results
 pub mod Samples
 pub mod SmallRegions

@@ -1,5 +1,6 @@
 -- Claims about the definitions alone, and the laws that their proofs share.
 pub mod Accepted
+pub mod Answers
 pub mod Axes
 pub mod Examples
 pub mod IsolatedRegions

@@ -1,13 +1,13 @@
 -- What an isolated region holds: with a sample, every sample that an open step leads to. Assumes nothing.
 use mathlib.Core.Path.{_≡_}
-use mathlib.Core.Bool.{Bool, true}
+use mathlib.Core.Bool.{true}
 use mathlib.Core.List.{List}
 use Prim.Native.Nat.{ℕ, _<_}
-use Rattle.alf_spec.specs.Lists.{implies}
 use Rattle.alf_spec.specs.Input.{Layout}
-use Rattle.alf_spec.specs.Geometry.{Side, before, after, next, planeOf, lumaPlane}
-use Rattle.alf_spec.specs.Isolation.{columnStep, rowStep, diagonalStep, inside, bothSides, staysInside, isolated}
+use Rattle.alf_spec.specs.Geometry.{Side, next, planeOf, lumaPlane}
+use Rattle.alf_spec.specs.Isolation.{columnStep, rowStep, diagonalStep, inside, staysInside, isolated}
 use Rattle.alf_spec.proofs.Tests.{both, implied, all-at}
+use Rattle.alf_spec.proofs.IsolatedRegions.EightSteps.{Eight, eight-steps}
 use Rattle.alf_spec.proofs.IsolatedRegions.Steps.{next-below, opened}
 
 -- the luma sample at column x and row y lies in the picture and in the region
@@ -15,10 +15,6 @@ pub record Held (l : Layout) (region : List ℕ) (x y : ℕ) : Type 0 where
   pub column : x < l .picture .width
   pub row : y < l .picture .height
   pub position : inside l region x y ≡ true
-
-on-side : (test : Side → Bool) → bothSides test ≡ true → (d : Side) → test d ≡ true
-on-side test q before = both (test before) (test after) q .0
-on-side test q after = both (test before) (test after) q .1
 
 module _ (l : Layout) (x y : ℕ) where
   column-below : (d : Side) → columnStep l x y d ≡ true → next d x < l .picture .width
@@ -30,36 +26,25 @@ module _ (l : Layout) (x y : ℕ) where
   row-below e q = next-below _ e y (opened (lumaPlane l .rows) _ e y q .1)
 
 module _ (l : Layout) (region : List ℕ) (iso : isolated l region ≡ true) (x y : ℕ) (h : Held l region x y) where
-  -- the three parts of `staysInside`
-  abbrev columnTest : Side → Bool
-  columnTest d = implies (columnStep l x y d) (inside l region (next d x) y)
-
-  abbrev rowTest : Side → Bool
-  rowTest e = implies (rowStep l x y e) (inside l region x (next e y))
-
-  abbrev diagonalTest : Side → Side → Bool
-  diagonalTest d e = implies (diagonalStep l x y d e) (inside l region (next d x) (next e y))
-
-  stays : (bothSides columnTest ≡ true) × (bothSides rowTest ≡ true) × (bothSides (λ d. bothSides (diagonalTest d)) ≡ true)
+  stays : Eight (columnStep l x y) (λ d. inside l region (next d x) y) (rowStep l x y) (λ e. inside l region x (next e y))
+      (diagonalStep l x y) (λ d e. inside l region (next d x) (next e y))
   unfolding isolated staysInside
   stays =
-      let s = implied (inside l region x y) (staysInside l region x y) (all-at _ _ (all-at _ _ iso y (h .row)) x (h .column)) (h .position) in
-      let t = both (bothSides columnTest) _ s in
-      let u = both (bothSides rowTest) _ (t .1) in
-      (t .0, u .0, u .1)
+      eight-steps _ _ _ _ _ _
+      (implied (inside l region x y) (staysInside l region x y) (all-at _ _ (all-at _ _ iso y (h .row)) x (h .column)) (h .position))
 
   pub held-column : (d : Side) → columnStep l x y d ≡ true → Held l region (next d x) y
   held-column d q = record {
     column = column-below l x y d q;
     row = h .row;
-    position = implied (columnStep l x y d) _ (on-side columnTest (stays .0) d) q;
+    position = stays .column d q;
   }
 
   pub held-row : (e : Side) → rowStep l x y e ≡ true → Held l region x (next e y)
   held-row e q = record {
     column = h .column;
     row = row-below l x y e q;
-    position = implied (rowStep l x y e) _ (on-side rowTest (stays .1) e) q;
+    position = stays .row e q;
   }
 
   pub held-diagonal : (d e : Side) → diagonalStep l x y d e ≡ true → Held l region (next d x) (next e y)
@@ -69,5 +54,5 @@ module _ (l : Layout) (region : List ℕ) (iso : isolated l region ≡ true) (x 
       record {
         column = column-below l x y d (c .0);
         row = row-below l x y e (both (rowStep l x y e) _ (c .1) .0);
-        position = implied (diagonalStep l x y d e) _ (on-side (diagonalTest d) (on-side (λ d. bothSides (diagonalTest d)) (stays .2) d) e) q;
+        position = stays .diagonal d e q;
       }

@@ -65,7 +65,7 @@ module _ (a : Axis) (disabled : Side → Bool) (d : Side) (x : ℕ) where
 
 module _ (a : Axis) (ok : Regular a) where
   -- the CTB of a position of the picture is one of the picture's
-  ctb-below : (x : ℕ) → x < a .size → x / a .ctb < ctbCount a
+  pub ctb-below : (x : ℕ) → x < a .size → x / a .ctb < ctbCount a
   ctb-below x h = le-div-iff-mul-le {k = a .ctb} {x = suc (x / a .ctb)} (omega (arith, ok .big)) .1 (omega (arith, ok .big, lower a x))
 
   -- a step that leaves a CTB leads to the one next to it

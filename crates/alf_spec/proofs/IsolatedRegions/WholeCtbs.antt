@@ -10,14 +10,15 @@ use lib.Dec.{eqb}
 use borrow.Author.Tests.{ne-eqb, not-true}
 use Rattle.alf_spec.specs.declared.Ctb.{Ctb}
 use Rattle.alf_spec.specs.Input.{Layout}
-use Rattle.alf_spec.specs.Geometry.{Side, before, after, sameSide, next, gap, hasNext, Axis, planeOf, lumaPlane, blockPlane, lumaPosition, ctbCount, ctbAt, ctbColumns, ctbRows}
+use Rattle.alf_spec.specs.Geometry.{Side, sameSide, next, gap, hasNext, Axis, planeOf, lumaPlane, blockPlane, lumaPosition, ctbCount, ctbAt, ctbColumns, ctbRows}
 use Rattle.alf_spec.specs.Boundary.{sliceDisables, disables, besideCtb, stackedCtb, columnDisabled, rowDisabled}
-use Rattle.alf_spec.specs.Isolation.{openStep, columnStep, rowStep, diagonalStep, inside, bothSides, staysInside, isolated, regionOf}
+use Rattle.alf_spec.specs.Isolation.{openStep, columnStep, rowStep, diagonalStep, inside, staysInside, isolated, regionOf}
 use Rattle.alf_spec.proofs.Tests.{both, imply, at-all}
 use Rattle.alf_spec.proofs.Lists.{tabulate-at}
 use Rattle.alf_spec.proofs.Planes.{index-below, index-column, index-row}
 use Rattle.alf_spec.proofs.Accepted.{Accepted}
 use Rattle.alf_spec.proofs.Axes.{Regular, regular-columns, regular-rows}
+use Rattle.alf_spec.proofs.IsolatedRegions.EightSteps.{test-eight}
 use Rattle.alf_spec.proofs.IsolatedRegions.Steps.{next-below, opened, next-ctb}
 
 -- ---- along one axis
@@ -44,7 +45,7 @@ module _ (a : Axis) (ok : Regular a) where
         (next-below (a .size) d x (p .1), simp (luma, mul-one) (move disabled d x (p .0) (p .1) (p .2)))
 
     -- CTBs begin at multiples of 8: the samples of an 8 by 8 block lie in one CTB
-    block-ctb : (x : ℕ) → x / 8 * 8 / a .ctb ≡ lumaPosition a x / a .ctb
+    pub block-ctb : (x : ℕ) → x / 8 * 8 / a .ctb ≡ lumaPosition a x / a .ctb
     block-ctb x =
         let whole : 8 * (a .ctb / 8) ≡ a .ctb = omega (arith, ok .ctb8) in
         let block : x / 8 * 8 / 8 ≡ x / 8 = omega arith in
@@ -101,9 +102,6 @@ module _ (l : Layout) (P : Ctb → Bool) (kept : Kept l P) (c : Ctb) (here : P c
   diagonal d e q r (crosses h off) (crosses k off′) slice =
       kept .corner d e c h k slice here (beside d q (crosses h off)) (stacked e r (crosses k off′))
 
-on-both : (test : Side → Bool) → ((d : Side) → test d ≡ true) → bothSides test ≡ true
-on-both test f = simp (f before, f after)
-
 module _ (l : Layout) (ok : Accepted l) (P : Ctb → Bool) (kept : Kept l P) where
   module _ (x y : ℕ) (column : x < l .picture .width) (row : y < l .picture .height) (here : P (ctbAt (lumaPlane l) x y) ≡ true) where
     abbrev own : Ctb
@@ -140,11 +138,9 @@ module _ (l : Layout) (ok : Accepted l) (P : Ctb → Bool) (kept : Kept l P) whe
 
     stays-inside : staysInside l (regionOf l P) x y ≡ true
     unfolding staysInside
-    stays-inside = simp (
-      on-both _ (λ d. imply (columnStep l x y d) _ (column-inside d)),
-      on-both _ (λ e. imply (rowStep l x y e) _ (row-inside e)),
-      on-both _ (λ d. on-both _ (λ e. imply (diagonalStep l x y d e) _ (diagonal-inside d e))),
-    )
+    stays-inside =
+        test-eight (columnStep l x y) _ (rowStep l x y) _ (diagonalStep l x y) _
+        (record { column = column-inside; row = row-inside; diagonal = diagonal-inside })
 
   pub kept-isolated : isolated l (regionOf l P) ≡ true
   unfolding isolated
