@@ -1,30 +1,30 @@
 -- What an answer of the judge says of the fault's number. Assumes nothing.
 use mathlib.Core.Path.{_≡_, refl, sym, _∙_, ap}
 use mathlib.Core.Bool.{Bool, true, false, _&&_}
-use Prim.Native.Nat.{ℕ}
-use lib.Dec.{eqb}
+use Prim.Native.Nat.{ℕ, suc, pred}
+use lib.Dec.{eqb, eqb·suc-zero}
 use Rattle.alf_spec.specs.declared.Fault.{Fault}
 use Rattle.alf_spec.specs.declared.Fault.the-variants.{PictureSize, CtbSize, BitDepth, ChromaFormat, Length, VirtualBoundary, Tile, Slice, Subpicture, Parameter, Filter, Sample, Address, Region}
 use Rattle.alf_spec.specs.declared.Answer.{Answer}
 use Rattle.alf_spec.specs.declared.Answer.the-variants.{Accepted, Rejected}
 use Rattle.alf_spec.specs.Answers.{faultNumber, number}
 
--- no cause has the number 0
-fault-positive : (f : Fault) → eqb (faultNumber f) 0 ≡ false
-fault-positive PictureSize = refl
-fault-positive CtbSize = refl
-fault-positive BitDepth = refl
-fault-positive ChromaFormat = refl
-fault-positive Length = refl
-fault-positive VirtualBoundary = refl
-fault-positive Tile = refl
-fault-positive Slice = refl
-fault-positive Subpicture = refl
-fault-positive Parameter = refl
-fault-positive Filter = refl
-fault-positive Sample = refl
-fault-positive Address = refl
-fault-positive Region = refl
+-- no fault has the number 0
+pub numbered : (f : Fault) → faultNumber f ≡ suc (pred (faultNumber f))
+numbered PictureSize = refl
+numbered CtbSize = refl
+numbered BitDepth = refl
+numbered ChromaFormat = refl
+numbered Length = refl
+numbered VirtualBoundary = refl
+numbered Tile = refl
+numbered Slice = refl
+numbered Subpicture = refl
+numbered Parameter = refl
+numbered Filter = refl
+numbered Sample = refl
+numbered Address = refl
+numbered Region = refl
 
 -- the judge's answer a, and the fault's number n
 module _ (a : Answer) {n : ℕ} (e : number a ≡ n) where
@@ -35,7 +35,7 @@ module _ (a : Answer) {n : ℕ} (e : number a ≡ n) where
   pub rejects : {f : Fault} → a ≡ Rejected f → (says : Bool) → (faultNumber f ≡ n) × (false ≡ (eqb n 0 && says))
   rejects {f} q says =
       let same : faultNumber f ≡ n = sym (ap number q) ∙ e in
-      (same, sym (ap (λ (m : ℕ). eqb m 0 && says) (sym same) ∙ ap (λ (b : Bool). b && says) (fault-positive f)))
+      (same, sym (ap (λ (m : ℕ). eqb m 0 && says) (sym same) ∙ ap (λ (b : Bool). b && says) (ap (λ (m : ℕ). eqb m 0) (numbered f) ∙ eqb·suc-zero (pred (faultNumber f)))))
 
   -- it says what was found
   pub finds : a ≡ Accepted → {found says : Bool} → found ≡ says → {r : Bool} → found ≡ r → (0 ≡ n) × (r ≡ (eqb n 0 && says))

@@ -3,6 +3,7 @@ pub mod Accepted
 pub mod Answers
 pub mod Axes
 pub mod Examples
+pub mod Faults
 pub mod IsolatedRegions
 pub mod Lists
 pub mod Planes

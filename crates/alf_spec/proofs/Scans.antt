@@ -7,8 +7,9 @@ use native.Mathlib.Numerals.{add-one}
 use native.Mathlib.Nat.{zero-add, le-antisymm}
 use native.Mathlib.Omega.{arith}
 use borrow.Author.Tests.{not-true, not-false}
+use lib.Dec.{leb, ltb, leb·suc-suc}
 use lib.ListN.{length, getD}
-use Rattle.alf_spec.specs.Lists.{allBelow, everyFrom}
+use Rattle.alf_spec.specs.Lists.{allBelow, everyFrom, every}
 use Rattle.alf_spec.proofs.Tests.{same-test, all-at, at-all, every-at, at-every}
 
 -- a test of every entry is one of every place
@@ -17,6 +18,10 @@ every-place d test xs =
     same-test _ _
     (λ e. at-all (length xs) _ (λ k h. rw zero-add at (every-at d 0 test xs e k h)))
     (λ e. at-every d 0 test xs (λ k h. rw zero-add (all-at (length xs) _ e k h)))
+
+-- entries up to a bound are those below the next number
+pub every-up-to : (bound : ℕ) (xs : List ℕ) → every (λ n. ltb n (suc bound)) xs ≡ every (λ n. leb n bound) xs
+every-up-to bound xs = simp leb·suc-suc
 
 -- ---- a loop that tests all of n places
 
