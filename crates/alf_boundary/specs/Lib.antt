@@ -1,3 +1,7 @@
 -- What the contracts of this crate say beside the definitions of `alf_spec`.
-pub mod Tables
 pub mod Blocks
+pub mod Clips
+pub mod Memberships
+pub mod Spans
+pub mod Steps
+pub mod Tables

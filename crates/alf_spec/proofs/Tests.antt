@@ -59,6 +59,10 @@ unfolding allBelow
 at-all zero test f = refl
 at-all (suc n) test f = simp (at-all n test (λ k h. f k (omega arith)), f n (omega arith))
 
+-- two tests that agree at each of these numbers
+pub all-same : (n : ℕ) {t u : ℕ → Bool} → ((k : ℕ) → k < n → t k ≡ u k) → allBelow n t ≡ allBelow n u
+all-same n e = same-test _ _ (λ p. at-all n _ (λ k h. sym (e k h) ∙ all-at n _ p k h)) (λ p. at-all n _ (λ k h. e k h ∙ all-at n _ p k h))
+
 pub every-at : {A : Type 0} (d : A) (k : ℕ) (test : ℕ → A → Bool) (xs : List A) → everyFrom k test xs ≡ true
     → (j : ℕ) → j < length xs → test (k + j) (getD xs j d) ≡ true
 unfolding everyFrom

@@ -1,0 +1,60 @@
+// The isolation test (01: shut test of an area).
+ghost use mathlib.Core.Path.{_≡_};
+ghost use mathlib.Core.Bool.{_&&_};
+ghost use lib.Dec.{eqb};
+ghost use Rattle.alf_spec.specs.Input.{layoutOf};
+ghost use Rattle.alf_spec.specs.Faults.{isolationFault};
+ghost use Rattle.alf_spec.specs.Isolation.{isolated as isolatedBy};
+ghost use Rattle.alf_spec.specs.Answers.{isolationNumber, saysIsolated};
+use alf_boundary::isolation::region_isolated;
+use alf_spec::Answer;
+use alf_spec::Isolation;
+use alf_spec::Picture;
+use alf_validate::judge_isolation;
+
+// The lowest fault of the layout or the region; or whether no open step leads out of the region. The region has one number for each
+// 8 by 8 luma block: 1 inside, 0 outside.
+pub fn isolated(
+    picture: Picture,
+    virtual_columns: &[u16],
+    virtual_rows: &[u16],
+    tile_columns: &[u8],
+    tile_rows: &[u8],
+    slice_map: &[u8],
+    subpic_map: &[u8],
+    subpic_across: &[u8],
+    region: &[u8],
+) -> Isolation
+    ensures numbered { λ r. ⌜ isolationNumber r ≡ isolationFault (layoutOf picture (now («virtual_columns» .entry)) (now («virtual_rows» .entry)) (now («tile_columns» .entry)) (now («tile_rows» .entry)) (now («slice_map» .entry)) (now («subpic_map» .entry)) (now («subpic_across» .entry))) (now (region .entry)) ⌝ }
+    ensures answered { λ r. ⌜ saysIsolated r ≡ (eqb (isolationFault (layoutOf picture (now («virtual_columns» .entry)) (now («virtual_rows» .entry)) (now («tile_columns» .entry)) (now («tile_rows» .entry)) (now («slice_map» .entry)) (now («subpic_map» .entry)) (now («subpic_across» .entry))) (now (region .entry))) 0 && isolatedBy (layoutOf picture (now («virtual_columns» .entry)) (now («virtual_rows» .entry)) (now («tile_columns» .entry)) (now («tile_rows» .entry)) (now («slice_map» .entry)) (now («subpic_map» .entry)) (now («subpic_across» .entry))) (now (region .entry))) ⌝ }
+{
+    let answer = judge_isolation(
+        picture,
+        virtual_columns,
+        virtual_rows,
+        tile_columns,
+        tile_rows,
+        slice_map,
+        subpic_map,
+        subpic_across,
+        region,
+    );
+    if let Answer::Rejected(fault) = answer {
+        return Isolation::Rejected(fault);
+    }
+    if region_isolated(
+        picture,
+        virtual_columns,
+        virtual_rows,
+        tile_columns,
+        tile_rows,
+        slice_map,
+        subpic_map,
+        subpic_across,
+        region,
+    ) {
+        Isolation::Isolated
+    } else {
+        Isolation::NotIsolated
+    }
+}

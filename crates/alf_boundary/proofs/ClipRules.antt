@@ -1,0 +1,45 @@
+-- Laws of the rules for clip positions. Assumes nothing.
+use mathlib.Core.Path.{_≡_, refl, sym, _∙_}
+use mathlib.Core.Bool.{Bool, true, false}
+use mathlib.Core.List.{List}
+use mathlib.Core.Option.{some, none}
+use Prim.Native.Nat.{ℕ, _+_, _-_, _≤_, _<_}
+use native.Mathlib.Nat.{le-antisymm}
+use native.Mathlib.Numerals.{add-one}
+use native.Mathlib.Omega.{arith}
+use lib.Dec.{leb}
+use lib.ListN.{length, getD, drop}
+use lib.Seq.{drop-cons, drop-length}
+use borrow.Author.Tests.{leb-true, le-leb}
+use Rattle.alf_spec.specs.Boundary.{find}
+use Rattle.alf_spec.proofs.Tests.{same-test}
+
+-- a distance against a limit, without a difference
+pub distance-le : (x v k : ℕ) → leb (x - v) k ≡ leb x (v + k)
+distance-le x v k =
+    same-test _ _
+    (λ q. let h = leb-true (x - v) k q in le-leb x (v + k) (omega arith))
+    (λ q. let h = leb-true x (v + k) q in le-leb (x - v) k (omega arith))
+
+-- ---- a loop that is left at the first entry that passes
+
+-- i entries are behind it, and none of them passed
+pub record Sought (test : ℕ → Bool) (xs : List ℕ) (i : ℕ) : Type 0 where
+  pub within : i ≤ length xs
+  pub rest : find test xs ≡ find test (drop i xs)
+
+pub sought-none : (test : ℕ → Bool) (xs : List ℕ) → Sought test xs 0
+sought-none test xs = record { within = omega arith; rest = refl }
+
+module _ {test : ℕ → Bool} {xs : List ℕ} {i : ℕ} (s : Sought test xs i) where
+  pub sought-here : i < length xs → {r : Bool} → r ≡ test (getD xs i 0) → r ≡ true → some (getD xs i 0) ≡ find test xs
+  unfolding find
+  sought-here h e q = sym (s .rest ∙ rw (drop-cons xs i 0, ← e, q))
+
+  pub sought-more : i < length xs → {r : Bool} → r ≡ test (getD xs i 0) → r ≡ false → Sought test xs (i + 1)
+  unfolding find
+  sought-more h e q = record { within = omega arith; rest = s .rest ∙ rw (add-one, drop-cons xs i 0, ← e, q) }
+
+  pub sought-done : length xs ≤ i → none ≡ find test xs
+  unfolding find
+  sought-done h = sym (s .rest ∙ rw (le-antisymm (s .within) h, drop-length xs))

@@ -1,0 +1,80 @@
+-- The CTBs of an accepted layout by their addresses: what the isolation test needs to know of one, and what its answer says. Assumes nothing.
+use mathlib.Core.Path.{_≡_, sym, _∙_, ap}
+use mathlib.Core.Bool.{Bool}
+use mathlib.Core.List.{List}
+use Prim.Native.Nat.{ℕ, suc, _+_, _-_, _*_, _/_, _%_, _≤_, _<_}
+use native.Mathlib.Nat.{mul-comm, mul-le-mul, mod-lt, div-lt-iff-lt-mul, le-div-iff-mul-le}
+use native.Mathlib.Omega.{arith}
+use Rattle.alf_spec.specs.declared.Grid.{Grid}
+use Rattle.alf_spec.specs.declared.Picture.{Picture}
+use Rattle.alf_spec.specs.declared.Sides.{Sides}
+use Rattle.alf_spec.specs.Lists.{allBelow}
+use Rattle.alf_spec.specs.Input.{Layout}
+use Rattle.alf_spec.specs.Geometry.{ctbSize, planeOf}
+use Rattle.alf_spec.specs.Isolation.{isolated}
+use Rattle.alf_spec.specs.Faults.{isolationFault}
+use Rattle.alf_spec.proofs.Accepted.{Accepted, accepted-layout, accepted-region}
+use Rattle.alf_spec.proofs.Axes.{regular-columns, regular-rows}
+use Rattle.alf_math.specs.Grids.{ctbsAlong, GridOf}
+use Rattle.alf_math.proofs.Grids.{width-bounds, height-bounds, grid-columns, grid-total}
+use Rattle.alf_boundary.specs.Tables.{TablesOf, SidesOf}
+use Rattle.alf_boundary.specs.Blocks.{ctbPasses}
+use Rattle.alf_boundary.specs.Steps.{ctbTest, addressPasses, BlocksOf}
+use Rattle.alf_boundary.proofs.Tables.{tables-of}
+use Rattle.alf_boundary.proofs.CtbOrder.{isolated-by-ctbs}
+use Rattle.alf_boundary.proofs.CtbSteps.{ctb-by-sides}
+
+-- the CTB at place q of n samples begins before their end
+begins : (s n q : ℕ) {count : ℕ} → 0 < s → count ≡ (n + (s - 1)) / s → q < count → q * s < n
+begins s n q h e l = omega (arith, le-div-iff-mul-le {k = s} {x = suc q} h .0 (rw e at l))
+
+pub few-ctbs : {p : Picture} {g : Grid} → GridOf p g → g .columns * g .rows ≤ 16384
+few-ctbs h = mul-le-mul (h .columnsHigh) (h .rowsHigh)
+
+-- of an accepted layout and region
+module _ (l : Layout) (region : List ℕ) (accepted : isolationFault l region ≡ 0) (g : Grid) (h : GridOf (l .picture) g) where
+  ok : Accepted l
+  ok = accepted-layout l region accepted
+
+  blocks-of : BlocksOf (l .picture) (g .ctb) region
+  unfolding planeOf
+  blocks-of = record {
+    ctbLow = h .ctbLow;
+    ctb8 = rw (h .ctb) (regular-columns l ok 8 8 .ctb8);
+    widthHigh = width-bounds (l .picture) (ok .sizes) (ok .ctbSize) .1;
+    width8 = regular-columns l ok 8 8 .size8;
+    heightHigh = height-bounds (l .picture) (ok .sizes) (ok .ctbSize) .1;
+    height8 = regular-rows l ok 8 8 .size8;
+    numbers = accepted-region l region accepted;
+  }
+
+  -- the code's answer for all CTBs
+  pub isolated-test : {r : Bool} → r ≡ allBelow (g .columns * g .rows) (addressPasses l region) → r ≡ isolated l region
+  unfolding addressPasses
+  isolated-test e = e ∙ rw (grid-total l g h) (sym (isolated-by-ctbs l region accepted))
+
+  -- the CTB at address k
+  module _ (k : ℕ) (below : k < g .columns * g .rows) where
+    -- it is in the grid, and the tables have its entries
+    pub in-grid : (GridOf (l .picture) g) × (TablesOf g (l .tileColumns) (l .tileRows) (l .sliceMap) (l .subpicMap) (l .subpicAcross))
+        × (k % g .columns < g .columns) × (k / g .columns < g .rows)
+    in-grid = (h, tables-of l g h ok, mod-lt k (h .columnsLow), div-lt-iff-lt-mul (h .columnsLow) .1 (rw mul-comm at below))
+
+    -- it begins in the picture, and the region has its blocks
+    pub in-region : (BlocksOf (l .picture) (g .ctb) region)
+        × (k % g .columns * g .ctb < l .picture .width) × (k / g .columns * g .ctb < l .picture .height)
+    unfolding ctbsAlong
+    in-region =
+        let positive : 0 < ctbSize (l .picture) = omega (arith, h .ctb, h .ctbLow) in
+        let column : k % g .columns * ctbSize (l .picture) < l .picture .width = begins _ _ _ positive (h .columns) (in-grid .2) in
+        let row : k / g .columns * ctbSize (l .picture) < l .picture .height = begins _ _ _ positive (h .rows) (in-grid .3) in
+        (blocks-of, rw (h .ctb) column, rw (h .ctb) row)
+
+    -- the code's answer for a CTB with these sides
+    pub address-passes : {s : Sides} → SidesOf l (record { column = k % g .columns; row = k / g .columns }) s → {r : Bool}
+        → r ≡ ctbTest (l .picture) (g .ctb) (l .virtualColumns) (l .virtualRows) region (record { column = k % g .columns; row = k / g .columns }) s
+        → r ≡ addressPasses l region k
+    unfolding addressPasses
+    address-passes sides e =
+        e ∙ rw (h .ctb) (ctb-by-sides l ok region _ _ sides)
+        ∙ ap (λ (n : ℕ). ctbPasses l region (record { column = k % n; row = k / n })) (grid-columns l g h)

@@ -1,0 +1,22 @@
+-- `alf_boundary::clips::clip_before` meets its contract: a rule for each call, in their order. Assumes nothing.
+use borrow.Author.Needs.{needs}
+use Rattle.alf_spec.specs.Boundary.{clipPosition}
+use Rattle.alf_boundary.proofs.clips.clip_before.Statement.{statement}
+use Rattle.alf_boundary.proofs.clips.clip_before.Tie as tie
+
+pub clip-before-spec : {M : Type 1} → statement M
+unfolding clipPosition
+clip-before-spec =
+    tie.close
+    (tie.spec
+    (λ c κs. search needs)
+    (λ c κs. search needs)
+    (λ c κs. search needs)
+    (λ c κs. search needs)
+    (λ c κs. search needs)
+    (λ c size ratio off e.
+    let s = c .before .before .before .before .before .before in
+    let by-line = c .before .before .before .before .line-clip-before .ensures size (s .args .boundaries .now) ratio in
+    let by-boundary = c .before .before .before .virtual-clip .ensures size (s .args .ctb) (s .args .line) ratio in
+    let by-side = c .before .before .side-clip-before .ensures size (s .args .boundaries .now) (s .args .line) ratio off e in
+    rw (← by-line, ← by-boundary, ← by-side, ← c .before .or-else .ensures) (c .or-else2 .ensures)))

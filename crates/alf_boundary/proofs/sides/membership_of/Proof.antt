@@ -1,0 +1,17 @@
+-- `alf_boundary::sides::membership_of` meets its contract: each table is read at the CTB's place or address. Assumes nothing.
+use borrow.Author.Needs.{needs}
+use Rattle.alf_boundary.proofs.sides.membership_of.Statement.{statement}
+use Rattle.alf_boundary.proofs.sides.membership_of.Tie as tie
+
+pub membership-of-spec : {M : Type 1} → statement M
+membership-of-spec =
+    tie.close
+    (tie.spec
+    (λ c. search needs)
+    (λ c. search needs)
+    (λ c κs. search needs)
+    (λ c. search needs)
+    (λ c. search needs)
+    (λ c. search needs)
+    (λ c. search needs)
+    (λ c. cc))

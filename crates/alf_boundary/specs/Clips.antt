@@ -1,0 +1,32 @@
+-- Clip positions as code has them, and the axis that they lie along. Assumes nothing.
+use mathlib.Core.Bool.{Bool, true, false}
+use mathlib.Core.List.{List}
+use mathlib.Core.Option.{Option, some, none}
+use Prim.Native.Nat.{ℕ, _≤_}
+use Rattle.alf_spec.specs.Geometry.{Side, before, after, Axis}
+use Rattle.alf_boundary.specs.declared.clips.Clip.{Clip}
+use Rattle.alf_boundary.specs.declared.clips.Clip.the-variants.{At, Nowhere}
+
+-- a clip position, where there is one
+abbrev pub clipOf : Clip → Option ℕ
+clipOf (At e) = some e
+clipOf Nowhere = none
+
+-- the side that a flag names
+abbrev pub sideOf : Bool → Side
+sideOf false = before
+sideOf true = after
+
+-- the axis with these fields
+abbrev pub axisOf : ℕ → ℕ → List ℕ → Bool → ℕ → Axis
+axisOf size ctb virtualBoundaries line ratio = record {
+  size = size;
+  ctb = ctb;
+  virtualBoundaries = virtualBoundaries;
+  hasLine = line;
+  ratio = ratio;
+}
+
+-- a CTB's side and a position, as small as 32-bit sums need
+abbrev pub Bounded : ℕ → ℕ → Type 0
+Bounded ctb x = (4 ≤ ctb) × (ctb ≤ 128) × (x ≤ 65535)

@@ -1,0 +1,230 @@
+// The sides and corners of a CTB across which filtering is disabled.
+ghost use mathlib.Core.Path.{_≡_};
+ghost use mathlib.Core.Bool.{true, _&&_};
+ghost use mathlib.Core.List.{List};
+ghost use Prim.Native.Nat.{ℕ, pred, _+_, _*_, _<_};
+ghost use lib.ListN.{length, getD};
+ghost use Rattle.alf_spec.specs.Input.{layoutOf};
+ghost use Rattle.alf_math.specs.Grids.{GridOf};
+ghost use Rattle.alf_boundary.specs.Tables.{TablesOf, SidesOf};
+ghost use Rattle.alf_boundary.specs.Memberships.{InTables, membershipAt, originBy, sliceStepDisabled, stepDisabled};
+use alf_spec::Ctb;
+use alf_spec::Grid;
+use alf_spec::Picture;
+use alf_spec::Sides;
+
+// The tile, the slice and the subpicture of a CTB.
+pub struct Membership {
+    pub tile_column: u8,
+    pub tile_row: u8,
+    pub slice: u8,
+    pub subpic: u8,
+}
+
+// What decides at each side of a CTB: its membership, the picture's switches for tiles and slices, and its own subpicture's switch.
+// With them the number of CTBs in a row, by which a neighbour's address is known.
+pub struct Origin {
+    pub own: Membership,
+    pub across_tiles: bool,
+    pub across_slices: bool,
+    pub across_subpic: bool,
+    pub columns: u32,
+}
+
+// A CTB next to another, where there is one.
+pub struct Neighbour {
+    pub there: bool,
+    pub ctb: Ctb,
+}
+
+// The address of a CTB.
+fn address(columns: u32, ctb: Ctb) -> usize
+    ensures { λ r. ⌜ r ≡ ctb .row * columns + ctb .column ⌝ }
+{
+    (ctb.row as usize) * (columns as usize) + (ctb.column as usize)
+}
+
+// What a CTB belongs to.
+fn membership_of(
+    columns: u32,
+    tile_columns: &[u8],
+    tile_rows: &[u8],
+    slice_map: &[u8],
+    subpic_map: &[u8],
+    ctb: Ctb,
+) -> Membership
+    requires { ⌜ InTables columns (now «tile_columns») (now «tile_rows») (now «slice_map») (now «subpic_map») ctb ⌝ }
+    ensures { λ m. ⌜ m ≡ membershipAt columns (now («tile_columns» .entry)) (now («tile_rows» .entry)) (now («slice_map» .entry))
+        (now («subpic_map» .entry)) ctb ⌝ }
+{
+    let column = ctb.column as usize;
+    let row = ctb.row as usize;
+    let at = address(columns, ctb);
+    Membership {
+        tile_column: tile_columns[column],
+        tile_row: tile_rows[row],
+        slice: slice_map[at],
+        subpic: subpic_map[at],
+    }
+}
+
+// A CTB's own membership and switches.
+fn origin_of(
+    picture: Picture,
+    columns: u32,
+    tile_columns: &[u8],
+    tile_rows: &[u8],
+    slice_map: &[u8],
+    subpic_map: &[u8],
+    subpic_across: &[u8],
+    ctb: Ctb,
+) -> Origin
+    requires { ⌜ (InTables columns (now «tile_columns») (now «tile_rows») (now «slice_map») (now «subpic_map») ctb)
+        × (getD (now «subpic_map») (ctb .row * columns + ctb .column) 0 < length (now «subpic_across»)) ⌝ }
+    ensures { λ o. ⌜ o ≡ originBy picture columns (now («subpic_across» .entry))
+        (membershipAt columns (now («tile_columns» .entry)) (now («tile_rows» .entry)) (now («slice_map» .entry)) (now («subpic_map» .entry)) ctb) ⌝ }
+{
+    let own = membership_of(columns, tile_columns, tile_rows, slice_map, subpic_map, ctb);
+    let subpic = own.subpic as usize;
+    Origin {
+        own: own,
+        across_tiles: picture.across_tiles,
+        across_slices: picture.across_slices,
+        across_subpic: subpic_across[subpic] != 0,
+        columns: columns,
+    }
+}
+
+// The step into a CTB of this slice is disabled, by slices: it is another slice, and the switch is off.
+fn slice_step_disabled(origin: Origin, slice: u8) -> bool
+    ensures { λ r. ⌜ r ≡ sliceStepDisabled origin slice ⌝ }
+{
+    let own = origin.own;
+    !(own.slice == slice) & !origin.across_slices
+}
+
+// The step into a CTB of this membership is disabled: it is of another tile, slice or subpicture, and the switch for that is off.
+fn step_disabled(origin: Origin, into: Membership) -> bool
+    ensures { λ r. ⌜ r ≡ stepDisabled origin into ⌝ }
+{
+    let own = origin.own;
+    let same_tile = (own.tile_column == into.tile_column) & (own.tile_row == into.tile_row);
+    let tile = !same_tile & !origin.across_tiles;
+    let subpic = !(own.subpic == into.subpic) & !origin.across_subpic;
+    tile | (slice_step_disabled(origin, into.slice) | subpic)
+}
+
+// Filtering across the side toward a neighbour is disabled; where there is none, nothing is read.
+fn side_disabled(
+    origin: Origin,
+    tile_columns: &[u8],
+    tile_rows: &[u8],
+    slice_map: &[u8],
+    subpic_map: &[u8],
+    n: Neighbour,
+) -> bool
+    requires { ⌜ (n .there ≡ true
+        → InTables (origin .columns) (now «tile_columns») (now «tile_rows») (now «slice_map») (now «subpic_map») (n .ctb)) ⌝ }
+    ensures { λ r. ⌜ r ≡ (n .there && stepDisabled origin (membershipAt (origin .columns) (now («tile_columns» .entry)) (now («tile_rows» .entry))
+        (now («slice_map» .entry)) (now («subpic_map» .entry)) (n .ctb))) ⌝ }
+{
+    if !n.there {
+        return false;
+    }
+    let columns = origin.columns;
+    let into = membership_of(
+        columns,
+        tile_columns,
+        tile_rows,
+        slice_map,
+        subpic_map,
+        n.ctb,
+    );
+    step_disabled(origin, into)
+}
+
+// Filtering across the corner toward a neighbour is disabled, by slices alone.
+fn corner_disabled(origin: Origin, slice_map: &[u8], n: Neighbour) -> bool
+    requires { ⌜ (n .there ≡ true → n .ctb .row * origin .columns + n .ctb .column < length (now «slice_map»)) ⌝ }
+    ensures { λ r. ⌜ r ≡ (n .there
+        && sliceStepDisabled origin (getD (now («slice_map» .entry)) (n .ctb .row * origin .columns + n .ctb .column) 0)) ⌝ }
+{
+    if !n.there {
+        return false;
+    }
+    let at = address(origin.columns, n.ctb);
+    slice_step_disabled(origin, slice_map[at])
+}
+
+// The place before n, or n itself at 0.
+fn previous(n: u32) -> u32
+    ensures { λ r. ⌜ r ≡ pred n ⌝ }
+{
+    if 0 < n { n - 1 } else { n }
+}
+
+// The neighbour at this place, where it is there.
+fn neighbour_at(there: bool, column: u32, row: u32) -> Neighbour
+    ensures { λ r. ⌜ r ≡ record { there = there; ctb = record { column = column; row = row } } ⌝ }
+{
+    let ctb = Ctb {
+        column: column,
+        row: row,
+    };
+    Neighbour {
+        there: there,
+        ctb: ctb,
+    }
+}
+
+// The sides and corners of a CTB across which filtering is disabled.
+pub fn sides_of(
+    picture: Picture,
+    grid: Grid,
+    tile_columns: &[u8],
+    tile_rows: &[u8],
+    slice_map: &[u8],
+    subpic_map: &[u8],
+    subpic_across: &[u8],
+    ctb: Ctb,
+) -> Sides
+    requires { ⌜ (GridOf picture grid)
+        × (TablesOf grid (now «tile_columns») (now «tile_rows») (now «slice_map») (now «subpic_map») (now «subpic_across»))
+        × (ctb .column < grid .columns) × (ctb .row < grid .rows) ⌝ }
+    ensures { λ s. ⌜ ((columns rows : List ℕ) → SidesOf
+        (layoutOf picture columns rows (now («tile_columns» .entry)) (now («tile_rows» .entry)) (now («slice_map» .entry)) (now («subpic_map» .entry))
+        (now («subpic_across» .entry))) ctb s) ⌝ }
+{
+    let columns = grid.columns;
+    let rows = grid.rows;
+    let x = ctb.column;
+    let y = ctb.row;
+    let x_after = x + 1;
+    let y_after = y + 1;
+    let own = origin_of(
+        picture,
+        columns,
+        tile_columns,
+        tile_rows,
+        slice_map,
+        subpic_map,
+        subpic_across,
+        ctb,
+    );
+    let x_before = previous(x);
+    let y_before = previous(y);
+    let left = neighbour_at(0 < x, x_before, y);
+    let right = neighbour_at(x_after < columns, x_after, y);
+    let above = neighbour_at(0 < y, x, y_before);
+    let below = neighbour_at(y_after < rows, x, y_after);
+    let upper_left = neighbour_at((0 < x) & (0 < y), x_before, y_before);
+    let lower_right = neighbour_at((x_after < columns) & (y_after < rows), x_after, y_after);
+    Sides {
+        left: side_disabled(own, tile_columns, tile_rows, slice_map, subpic_map, left),
+        right: side_disabled(own, tile_columns, tile_rows, slice_map, subpic_map, right),
+        top: side_disabled(own, tile_columns, tile_rows, slice_map, subpic_map, above),
+        bottom: side_disabled(own, tile_columns, tile_rows, slice_map, subpic_map, below),
+        upper_left: corner_disabled(own, slice_map, upper_left),
+        lower_right: corner_disabled(own, slice_map, lower_right),
+    }
+}
