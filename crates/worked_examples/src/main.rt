@@ -1,5 +1,6 @@
-// Runs the worked examples P1 to P8 and P12 of paper 01 on the proved leaves, one line each.
-// (P9 to P11 speak of positions: they are proved of the definitions, and run once there is code for positions.)
+// Runs the worked examples P1 to P12 of paper 01 on the proved leaves, one line each.
+mod positions;
+
 ghost use Prim.Native.Nat.{_^_, _≤_, _<_};
 ghost use lib.IntN.{natAbs};
 use alf_math::direction::activity;
@@ -10,11 +11,11 @@ use alf_math::taps::tap;
 use alf_spec::Sums;
 use libc::STDOUT_FILENO;
 
-fn print(text: &[u8]) {
+pub fn print(text: &[u8]) {
     io::write_all(STDOUT_FILENO, text);
 }
 
-fn print_number(n: u32) {
+pub fn print_number(n: u32) {
     io::print_decimal(STDOUT_FILENO, n as u64);
 }
 
@@ -114,6 +115,15 @@ fn main() {
     print(b"P8   activity of V + H, depth 10:");
     show_activity(3839);
     show_activity(3840);
+    print(b"\nP9   clip positions, CTB of 32:");
+    positions::show_below(23);
+    positions::show_below(24);
+    positions::show_above(28);
+    print(b"\nP10  read from the CTB at (32,32):");
+    positions::show_corner();
+    print(b"\nP11  line rule of the CTB at row 32:");
+    positions::show_line_rule(64);
+    positions::show_line_rule(56);
     print(b"\nP12  filtered sample by clip:");
     show_filtered(256);
     show_filtered(3);
