@@ -17,7 +17,7 @@ use Rattle.alf_math.proofs.Grids.{grid-columns, grid-rows}
 use Rattle.alf_boundary.specs.declared.sides.Membership.{Membership}
 use Rattle.alf_boundary.specs.declared.sides.Origin.{Origin}
 use Rattle.alf_boundary.specs.declared.sides.Neighbour.{Neighbour}
-use Rattle.alf_boundary.specs.Memberships.{membershipAt, originBy, stepDisabled, sliceStepDisabled}
+use Rattle.alf_boundary.specs.Memberships.{membershipAt, stepDisabled, sliceStepDisabled}
 
 and-same : {a b a′ b′ : Bool} → a ≡ a′ → b ≡ b′ → (a && b) ≡ (a′ && b′)
 and-same p q = rw (p, q)
@@ -35,7 +35,16 @@ has-after n x = rw (add-one, lt-ltb 0 (suc x) (zero-lt-suc x))
 module _ (l : Layout) (g : Grid) (h : GridOf (l .picture) g) where
   -- what the tables say of a CTB
   abbrev memberOf : ℕ → Ctb → Membership
-  memberOf columns n = membershipAt columns (l .tileColumns) (l .tileRows) (l .sliceMap) (l .subpicMap) n
+  memberOf columns n = membershipAt columns (l .tileColumns) (l .tileRows) (l .sliceMap) (l .subpicMap) (l .subpicAcross) n
+
+  -- what decides at the sides of a CTB of this membership
+  abbrev pub originBy : Membership → Origin
+  originBy m = record {
+    own = m;
+    «across_tiles» = l .picture .«across_tiles»;
+    «across_slices» = l .picture .«across_slices»;
+    columns = g .columns;
+  }
 
   columns-have : (d : Side) (x : ℕ) → hasNext (g .columns) d x ≡ hasNext (ctbColumns l) d x
   columns-have d x = rw (grid-columns l g h)
@@ -43,7 +52,7 @@ module _ (l : Layout) (g : Grid) (h : GridOf (l .picture) g) where
   rows-have : (d : Side) (y : ℕ) → hasNext (g .rows) d y ≡ hasNext (ctbRows l) d y
   rows-have d y = rw (grid-rows l g h)
 
-  module _ (c : Ctb) {o : Origin} (own : o ≡ originBy (l .picture) (g .columns) (l .subpicAcross) (memberOf (g .columns) c)) (d : Side) where
+  module _ (c : Ctb) {o : Origin} (own : o ≡ originBy (memberOf (g .columns) c)) (d : Side) where
     step-is : (m n : Ctb) → m ≡ n → stepDisabled o (memberOf (o .columns) m) ≡ disables l c n
     unfolding tileDisables sliceDisables subpicDisables tileColumnOf tileRowOf sliceOf subpicOf
     step-is m n e = rw (e, own, Bool·not-not, grid-columns l g h)

@@ -48,27 +48,25 @@ module _ {g : Grid} {tileColumns tileRows sliceMap subpicMap subpicAcross : List
   address-below : (c : Ctb) → c .column < g .columns → c .row < g .rows → c .row * g .columns + c .column < g .columns * g .rows
   address-below c x y = omega (arith, mul-le-mul-left (g .columns) y)
 
-  -- a CTB has its entries
-  pub in-tables : (c : Ctb) → c .column < g .columns → c .row < g .rows → InTables (g .columns) tileColumns tileRows sliceMap subpicMap c
-  in-tables c x y = record {
-    column = rw (t .columnsLength) x;
-    row = rw (t .rowsLength) y;
-    slice = rw (t .sliceLength) (address-below c x y);
-    subpic = rw (t .subpicLength) (address-below c x y);
-  }
-
-  -- and its subpicture a switch
-  pub in-switches : (c : Ctb) → c .column < g .columns → c .row < g .rows
-      → getD subpicMap (c .row * g .columns + c .column) 0 < length subpicAcross
-  in-switches c x y =
-      let below = every-at 0 0 (λ k n. ltb n 64) subpicMap (t .subpictures) (c .row * g .columns + c .column) (in-tables c x y .subpic) in
-      rw (t .switchLength) (ltb-true _ 64 below)
+  -- a CTB has its entries, and its subpicture a switch
+  pub in-tables : (c : Ctb) → c .column < g .columns → c .row < g .rows
+      → InTables (g .columns) tileColumns tileRows sliceMap subpicMap subpicAcross c
+  in-tables c x y =
+      let here : c .row * g .columns + c .column < length subpicMap = rw (t .subpicLength) (address-below c x y) in
+      let below = every-at 0 0 (λ k n. ltb n 64) subpicMap (t .subpictures) (c .row * g .columns + c .column) here in
+      record {
+        column = rw (t .columnsLength) x;
+        row = rw (t .rowsLength) y;
+        slice = rw (t .sliceLength) (address-below c x y);
+        subpic = here;
+        switch = rw (t .switchLength) (ltb-true _ 64 below);
+      }
 
   -- a neighbour that is there has its entries
   pub neighbour-in : {columns : ℕ} → columns ≡ g .columns
       → {n : Neighbour} {there : Bool} {x y : ℕ} → n ≡ record { there = there; ctb = record { column = x; row = y } }
       → (there ≡ true → (x < g .columns) × (y < g .rows))
-      → n .there ≡ true → InTables columns tileColumns tileRows sliceMap subpicMap (n .ctb)
+      → n .there ≡ true → InTables columns tileColumns tileRows sliceMap subpicMap subpicAcross (n .ctb)
   neighbour-in e is within h =
       let p = within (ap (λ (n : Neighbour). n .there) (sym is) ∙ h) in
       rw (e, is) (in-tables _ (p .0) (p .1))

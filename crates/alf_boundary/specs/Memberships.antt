@@ -4,19 +4,19 @@ use mathlib.Core.List.{List}
 use Prim.Native.Nat.{ℕ, _+_, _*_, _<_}
 use lib.Dec.{eqb}
 use lib.ListN.{length, getD}
-use Rattle.alf_spec.specs.declared.Picture.{Picture}
 use Rattle.alf_spec.specs.declared.Ctb.{Ctb}
 use Rattle.alf_boundary.specs.declared.sides.Membership.{Membership}
 use Rattle.alf_boundary.specs.declared.sides.Origin.{Origin}
 
 -- the tables of a grid with this many CTBs in a row
-module _ (columns : ℕ) (tileColumns tileRows sliceMap subpicMap : List ℕ) where
+module _ (columns : ℕ) (tileColumns tileRows sliceMap subpicMap subpicAcross : List ℕ) where
   -- they have entries for the CTB c
   pub record InTables (c : Ctb) : Type 0 where
     pub column : c .column < length tileColumns
     pub row : c .row < length tileRows
     pub slice : c .row * columns + c .column < length sliceMap
     pub subpic : c .row * columns + c .column < length subpicMap
+    pub switch : getD subpicMap (c .row * columns + c .column) 0 < length subpicAcross
 
   -- what they say of it
   abbrev pub membershipAt : Ctb → Membership
@@ -25,17 +25,8 @@ module _ (columns : ℕ) (tileColumns tileRows sliceMap subpicMap : List ℕ) wh
     «tile_row» = getD tileRows (c .row) 0;
     slice = getD sliceMap (c .row * columns + c .column) 0;
     subpic = getD subpicMap (c .row * columns + c .column) 0;
+    «across_subpic» = not (eqb (getD subpicAcross (getD subpicMap (c .row * columns + c .column) 0) 0) 0);
   }
-
--- what decides at the sides of a CTB of this membership: the switches of the picture, and of its subpicture
-abbrev pub originBy : Picture → ℕ → List ℕ → Membership → Origin
-originBy p columns subpicAcross m = record {
-  own = m;
-  «across_tiles» = p .«across_tiles»;
-  «across_slices» = p .«across_slices»;
-  «across_subpic» = not (eqb (getD subpicAcross (m .subpic) 0) 0);
-  columns = columns;
-}
 
 -- the step into a CTB of this slice is disabled, by slices
 abbrev pub sliceStepDisabled : Origin → ℕ → Bool
@@ -45,4 +36,4 @@ sliceStepDisabled o slice = not (eqb (o .own .slice) slice) && not (o .«across_
 abbrev pub stepDisabled : Origin → Membership → Bool
 stepDisabled o n =
     (not (eqb (o .own .«tile_column») (n .«tile_column») && eqb (o .own .«tile_row») (n .«tile_row»)) && not (o .«across_tiles»))
-    || (sliceStepDisabled o (n .slice) || (not (eqb (o .own .subpic) (n .subpic)) && not (o .«across_subpic»)))
+    || (sliceStepDisabled o (n .slice) || (not (eqb (o .own .subpic) (n .subpic)) && not (o .own .«across_subpic»)))

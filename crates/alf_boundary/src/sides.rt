@@ -1,33 +1,34 @@
 // The sides and corners of a CTB across which filtering is disabled.
 ghost use mathlib.Core.Path.{_≡_};
-ghost use mathlib.Core.Bool.{true, _&&_};
+ghost use mathlib.Core.Bool.{true, not, _&&_};
 ghost use mathlib.Core.List.{List};
 ghost use Prim.Native.Nat.{ℕ, pred, _+_, _*_, _<_};
+ghost use lib.Dec.{eqb};
 ghost use lib.ListN.{length, getD};
 ghost use Rattle.alf_spec.specs.Input.{layoutOf};
 ghost use Rattle.alf_math.specs.Grids.{GridOf};
 ghost use Rattle.alf_boundary.specs.Tables.{TablesOf, SidesOf};
-ghost use Rattle.alf_boundary.specs.Memberships.{InTables, membershipAt, originBy, sliceStepDisabled, stepDisabled};
+ghost use Rattle.alf_boundary.specs.Memberships.{InTables, membershipAt, sliceStepDisabled, stepDisabled};
 use alf_spec::Ctb;
 use alf_spec::Grid;
 use alf_spec::Picture;
 use alf_spec::Sides;
 
-// The tile, the slice and the subpicture of a CTB.
+// The tile, the slice and the subpicture of a CTB, and that subpicture's switch.
 pub struct Membership {
     pub tile_column: u8,
     pub tile_row: u8,
     pub slice: u8,
     pub subpic: u8,
+    pub across_subpic: bool,
 }
 
-// What decides at each side of a CTB: its membership, the picture's switches for tiles and slices, and its own subpicture's switch.
-// With them the number of CTBs in a row, by which a neighbour's address is known.
+// What decides at each side of a CTB: its membership, and the picture's switches for tiles and slices. With them the number of CTBs in a
+// row, by which a neighbour's address is known.
 pub struct Origin {
     pub own: Membership,
     pub across_tiles: bool,
     pub across_slices: bool,
-    pub across_subpic: bool,
     pub columns: u32,
 }
 
@@ -44,6 +45,15 @@ fn address(columns: u32, ctb: Ctb) -> usize
     (ctb.row as usize) * (columns as usize) + (ctb.column as usize)
 }
 
+// The switch of a subpicture.
+fn switch_of(subpic_across: &[u8], subpic: u8) -> bool
+    requires { ⌜ subpic < length (now «subpic_across») ⌝ }
+    ensures { λ r. ⌜ r ≡ not (eqb (getD (now («subpic_across» .entry)) subpic 0) 0) ⌝ }
+{
+    let at = subpic as usize;
+    subpic_across[at] != 0
+}
+
 // What a CTB belongs to.
 fn membership_of(
     columns: u32,
@@ -51,47 +61,23 @@ fn membership_of(
     tile_rows: &[u8],
     slice_map: &[u8],
     subpic_map: &[u8],
+    subpic_across: &[u8],
     ctb: Ctb,
 ) -> Membership
-    requires { ⌜ InTables columns (now «tile_columns») (now «tile_rows») (now «slice_map») (now «subpic_map») ctb ⌝ }
+    requires { ⌜ InTables columns (now «tile_columns») (now «tile_rows») (now «slice_map») (now «subpic_map») (now «subpic_across») ctb ⌝ }
     ensures { λ m. ⌜ m ≡ membershipAt columns (now («tile_columns» .entry)) (now («tile_rows» .entry)) (now («slice_map» .entry))
-        (now («subpic_map» .entry)) ctb ⌝ }
+        (now («subpic_map» .entry)) (now («subpic_across» .entry)) ctb ⌝ }
 {
     let column = ctb.column as usize;
     let row = ctb.row as usize;
     let at = address(columns, ctb);
+    let subpic = subpic_map[at];
     Membership {
         tile_column: tile_columns[column],
         tile_row: tile_rows[row],
         slice: slice_map[at],
-        subpic: subpic_map[at],
-    }
-}
-
-// A CTB's own membership and switches.
-fn origin_of(
-    picture: Picture,
-    columns: u32,
-    tile_columns: &[u8],
-    tile_rows: &[u8],
-    slice_map: &[u8],
-    subpic_map: &[u8],
-    subpic_across: &[u8],
-    ctb: Ctb,
-) -> Origin
-    requires { ⌜ (InTables columns (now «tile_columns») (now «tile_rows») (now «slice_map») (now «subpic_map») ctb)
-        × (getD (now «subpic_map») (ctb .row * columns + ctb .column) 0 < length (now «subpic_across»)) ⌝ }
-    ensures { λ o. ⌜ o ≡ originBy picture columns (now («subpic_across» .entry))
-        (membershipAt columns (now («tile_columns» .entry)) (now («tile_rows» .entry)) (now («slice_map» .entry)) (now («subpic_map» .entry)) ctb) ⌝ }
-{
-    let own = membership_of(columns, tile_columns, tile_rows, slice_map, subpic_map, ctb);
-    let subpic = own.subpic as usize;
-    Origin {
-        own: own,
-        across_tiles: picture.across_tiles,
-        across_slices: picture.across_slices,
-        across_subpic: subpic_across[subpic] != 0,
-        columns: columns,
+        subpic: subpic,
+        across_subpic: switch_of(subpic_across, subpic),
     }
 }
 
@@ -110,7 +96,7 @@ fn step_disabled(origin: Origin, into: Membership) -> bool
     let own = origin.own;
     let same_tile = (own.tile_column == into.tile_column) & (own.tile_row == into.tile_row);
     let tile = !same_tile & !origin.across_tiles;
-    let subpic = !(own.subpic == into.subpic) & !origin.across_subpic;
+    let subpic = !(own.subpic == into.subpic) & !own.across_subpic;
     tile | (slice_step_disabled(origin, into.slice) | subpic)
 }
 
@@ -121,12 +107,13 @@ fn side_disabled(
     tile_rows: &[u8],
     slice_map: &[u8],
     subpic_map: &[u8],
+    subpic_across: &[u8],
     n: Neighbour,
 ) -> bool
     requires { ⌜ (n .there ≡ true
-        → InTables (origin .columns) (now «tile_columns») (now «tile_rows») (now «slice_map») (now «subpic_map») (n .ctb)) ⌝ }
+        → InTables (origin .columns) (now «tile_columns») (now «tile_rows») (now «slice_map») (now «subpic_map») (now «subpic_across») (n .ctb)) ⌝ }
     ensures { λ r. ⌜ r ≡ (n .there && stepDisabled origin (membershipAt (origin .columns) (now («tile_columns» .entry)) (now («tile_rows» .entry))
-        (now («slice_map» .entry)) (now («subpic_map» .entry)) (n .ctb))) ⌝ }
+        (now («slice_map» .entry)) (now («subpic_map» .entry)) (now («subpic_across» .entry)) (n .ctb))) ⌝ }
 {
     if !n.there {
         return false;
@@ -138,6 +125,7 @@ fn side_disabled(
         tile_rows,
         slice_map,
         subpic_map,
+        subpic_across,
         n.ctb,
     );
     step_disabled(origin, into)
@@ -201,8 +189,7 @@ pub fn sides_of(
     let y = ctb.row;
     let x_after = x + 1;
     let y_after = y + 1;
-    let own = origin_of(
-        picture,
+    let own = membership_of(
         columns,
         tile_columns,
         tile_rows,
@@ -211,6 +198,12 @@ pub fn sides_of(
         subpic_across,
         ctb,
     );
+    let here = Origin {
+        own: own,
+        across_tiles: picture.across_tiles,
+        across_slices: picture.across_slices,
+        columns: columns,
+    };
     let x_before = previous(x);
     let y_before = previous(y);
     let left = neighbour_at(0 < x, x_before, y);
@@ -220,11 +213,43 @@ pub fn sides_of(
     let upper_left = neighbour_at((0 < x) & (0 < y), x_before, y_before);
     let lower_right = neighbour_at((x_after < columns) & (y_after < rows), x_after, y_after);
     Sides {
-        left: side_disabled(own, tile_columns, tile_rows, slice_map, subpic_map, left),
-        right: side_disabled(own, tile_columns, tile_rows, slice_map, subpic_map, right),
-        top: side_disabled(own, tile_columns, tile_rows, slice_map, subpic_map, above),
-        bottom: side_disabled(own, tile_columns, tile_rows, slice_map, subpic_map, below),
-        upper_left: corner_disabled(own, slice_map, upper_left),
-        lower_right: corner_disabled(own, slice_map, lower_right),
+        left: side_disabled(
+            here,
+            tile_columns,
+            tile_rows,
+            slice_map,
+            subpic_map,
+            subpic_across,
+            left,
+        ),
+        right: side_disabled(
+            here,
+            tile_columns,
+            tile_rows,
+            slice_map,
+            subpic_map,
+            subpic_across,
+            right,
+        ),
+        top: side_disabled(
+            here,
+            tile_columns,
+            tile_rows,
+            slice_map,
+            subpic_map,
+            subpic_across,
+            above,
+        ),
+        bottom: side_disabled(
+            here,
+            tile_columns,
+            tile_rows,
+            slice_map,
+            subpic_map,
+            subpic_across,
+            below,
+        ),
+        upper_left: corner_disabled(here, slice_map, upper_left),
+        lower_right: corner_disabled(here, slice_map, lower_right),
     }
 }

@@ -14,4 +14,5 @@ membership-of-spec =
     (λ c. search needs)
     (λ c. search needs)
     (λ c. search needs)
-    (λ c. cc))
+    (λ c κs. rw (c .before .before .before .before .address .ensures) (c .before .before .before .before .before .before .before .before .before .before .before .before .pre .switch))
+    (λ c. rw (c .switch-of .ensures, c .before .before .before .before .before .address .ensures)))

@@ -8,9 +8,9 @@ pub side-disabled-spec : {M : Type 1} → statement M
 side-disabled-spec =
     tie.close
     (tie.spec
-    (λ c. rw (not-true (c .before .before .before .before .before .before .args .n .there) (c .if1 .taken)))
-    (λ c κs. let s = c .before .before .before .before .before .before in s .pre (not-false (s .args .n .there) (c .if1 .left)))
+    (λ c. rw (not-true (c .before .before .before .before .before .before .before .args .n .there) (c .if1 .taken)))
+    (λ c κs. let s = c .before .before .before .before .before .before .before in s .pre (not-false (s .args .n .there) (c .if1 .left)))
     (λ c κs. search needs)
     (λ c.
-    let s = c .before .before .before .before .before .before .before .before in
+    let s = c .before .before .before .before .before .before .before .before .before in
     rw (not-false (s .args .n .there) (c .before .before .if1 .left)) (rw (c .before .membership-of .ensures) at (c .step-disabled .ensures))))

@@ -1,5 +1,5 @@
 -- `alf_boundary::sides::sides_of` meets its contract: a side or a corner for each neighbour. Assumes nothing.
-use mathlib.Core.Path.{_≡_, ap}
+use mathlib.Core.Path.{_≡_, refl, ap}
 use mathlib.Core.Bool.{true, _&&_}
 use mathlib.Core.List.{List}
 use Prim.Native.Nat.{ℕ, _+_, _<_}
@@ -11,9 +11,8 @@ use borrow.Author.Tests.{ltb-true}
 use Rattle.alf_spec.specs.Input.{Layout, layoutOf}
 use Rattle.alf_spec.specs.Geometry.{before, after}
 use Rattle.alf_spec.proofs.Tests.{both}
-use Rattle.alf_boundary.specs.declared.sides.Origin.{Origin}
-use Rattle.alf_boundary.proofs.CtbSides.{has-before, has-after, column-side, row-side, corner}
-use Rattle.alf_boundary.proofs.Tables.{in-tables, in-switches, neighbour-in}
+use Rattle.alf_boundary.proofs.CtbSides.{has-before, has-after, originBy, column-side, row-side, corner}
+use Rattle.alf_boundary.proofs.Tables.{in-tables, neighbour-in}
 use Rattle.alf_boundary.proofs.sides.sides_of.Statement.{statement}
 use Rattle.alf_boundary.proofs.sides.sides_of.Tie as tie
 
@@ -23,9 +22,6 @@ start c = c .before .before .before .before .before .before .before .before .bef
 
 abbrev places : tie.After-neighbour-at6 → tie.After-previous2
 places c = c .before .before .before .before .before .before
-
-columns-are : (c : tie.After-neighbour-at6) → places c .before .before .origin-of .result .columns ≡ start c .args .grid .columns
-columns-are c = ap (λ (o : Origin). o .columns) (places c .before .before .origin-of .ensures)
 
 x-before : (c : tie.After-neighbour-at6) → places c .before .previous .result < start c .args .grid .columns
 x-before c = omega (arith, places c .before .previous .ensures, start c .pre .2)
@@ -61,7 +57,7 @@ returns c columns rows =
     let g = s .args .grid in
     let h = s .pre .0 in
     let n = s .args .ctb in
-    let o = places known .before .before .origin-of .ensures in
+    let o = ap (originBy l g h) (places known .before .before .membership-of .ensures) in
     let x = places known .before .previous .ensures in
     let y = places known .previous2 .ensures in
     let hasLeft = has-before (g .columns) (n .column) (s .pre .2) in
@@ -85,7 +81,7 @@ sides-of-spec =
     (λ c. search needs)
     (λ c κs.
     let s = c .before .before .before .before .before in
-    (in-tables (s .pre .1) _ (s .pre .2) (s .pre .3), in-switches (s .pre .1) _ (s .pre .2) (s .pre .3)))
+    in-tables (s .pre .1) _ (s .pre .2) (s .pre .3))
     (λ c κs. search needs)
     (λ c κs. search needs)
     (λ c κs. search needs)
@@ -96,23 +92,23 @@ sides-of-spec =
     (λ c κs. search needs)
     (λ c κs.
     let s = start c in
-    neighbour-in (s .pre .1) (columns-are c) (c .before .before .before .before .before .neighbour-at .ensures) (λ e. (x-before c, s .pre .3)))
+    neighbour-in (s .pre .1) refl (c .before .before .before .before .before .neighbour-at .ensures) (λ e. (x-before c, s .pre .3)))
     (λ c κs.
     let k = c .before in
     let s = start k in
-    neighbour-in (s .pre .1) (columns-are k) (k .before .before .before .before .neighbour-at2 .ensures) (λ e. (ltb-true _ _ e, s .pre .3)))
+    neighbour-in (s .pre .1) refl (k .before .before .before .before .neighbour-at2 .ensures) (λ e. (ltb-true _ _ e, s .pre .3)))
     (λ c κs.
     let k = c .before .before in
     let s = start k in
-    neighbour-in (s .pre .1) (columns-are k) (k .before .before .before .neighbour-at3 .ensures) (λ e. (s .pre .2, y-before k)))
+    neighbour-in (s .pre .1) refl (k .before .before .before .neighbour-at3 .ensures) (λ e. (s .pre .2, y-before k)))
     (λ c κs.
     let k = c .before .before .before in
     let s = start k in
-    neighbour-in (s .pre .1) (columns-are k) (k .before .before .neighbour-at4 .ensures) (λ e. (s .pre .2, ltb-true _ _ e)))
+    neighbour-in (s .pre .1) refl (k .before .before .neighbour-at4 .ensures) (λ e. (s .pre .2, ltb-true _ _ e)))
     (λ c κs e.
     let k = c .before .before .before .before in
-    neighbour-in (start k .pre .1) (columns-are k) (k .before .neighbour-at5 .ensures) (λ e. (x-before k, y-before k)) e .slice)
+    neighbour-in (start k .pre .1) refl (k .before .neighbour-at5 .ensures) (λ e. (x-before k, y-before k)) e .slice)
     (λ c κs e.
     let k = c .before .before .before .before .before in
-    neighbour-in (start k .pre .1) (columns-are k) (k .neighbour-at6 .ensures) (lower-right k) e .slice)
+    neighbour-in (start k .pre .1) refl (k .neighbour-at6 .ensures) (lower-right k) e .slice)
     returns)
