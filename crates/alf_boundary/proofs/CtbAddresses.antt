@@ -28,9 +28,6 @@ use Rattle.alf_boundary.proofs.CtbSteps.{ctb-by-sides}
 begins : (s n q : ℕ) {count : ℕ} → 0 < s → count ≡ (n + (s - 1)) / s → q < count → q * s < n
 begins s n q h e l = omega (arith, le-div-iff-mul-le {k = s} {x = suc q} h .0 (rw e at l))
 
-pub few-ctbs : {p : Picture} {g : Grid} → GridOf p g → g .columns * g .rows ≤ 16384
-few-ctbs h = mul-le-mul (h .columnsHigh) (h .rowsHigh)
-
 -- of an accepted layout and region
 module _ (l : Layout) (region : List ℕ) (accepted : isolationFault l region ≡ 0) (g : Grid) (h : GridOf (l .picture) g) where
   ok : Accepted l

@@ -2,7 +2,7 @@
 use mathlib.Core.Path.{_≡_, _∙_}
 use mathlib.Core.Bool.{Bool, true}
 use Prim.Native.Nat.{ℕ, suc, _+_, _-_, _*_, _/_, _%_, _^_, _≤_, _<_}
-use native.Mathlib.Nat.{one-mul, mod-eq-of-lt, le-div-iff-mul-le, div-lt-iff-lt-mul}
+use native.Mathlib.Nat.{one-mul, mul-le-mul, mod-eq-of-lt, le-div-iff-mul-le, div-lt-iff-lt-mul}
 use native.Mathlib.Omega.{arith}
 use lib.Dec.{eqb, leb}
 use lib.Pow.{pow-lt, pow-mono}
@@ -75,6 +75,16 @@ module _ (p : Picture) (sizes : pictureSizeValid p ≡ true) (log2 : ctbSizeVali
           rowsLow = rw high (h .0);
           rowsHigh = rw high (h .1);
         }
+
+-- there are at most 128 by 128 CTBs
+pub few-ctbs : {p : Picture} {g : Grid} → GridOf p g → g .columns * g .rows ≤ 16384
+few-ctbs h = mul-le-mul (h .columnsHigh) (h .rowsHigh)
+
+pub few-in-layout : (l : Layout) → pictureSizeValid (l .picture) ≡ true → ctbSizeValid (l .picture) ≡ true → ctbTotal l ≤ 16384
+unfolding planeOf
+few-in-layout l sizes log2 =
+    let s = ctb-bounds (l .picture) sizes log2 in
+    mul-le-mul (along-bounds _ _ s (width-bounds (l .picture) sizes log2) .1) (along-bounds _ _ s (height-bounds (l .picture) sizes log2) .1)
 
 -- the grid's numbers are the layout's
 module _ (l : Layout) (g : Grid) (h : GridOf (l .picture) g) where

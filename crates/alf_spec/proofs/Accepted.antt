@@ -32,7 +32,7 @@ pub record Accepted (l : Layout) : Type 0 where
   pub subpictures : subpicturesValid l ≡ true
 
 -- what the operation's own tests of 4 and 5 say, too
-chain : (l : Layout) (component lengths : Bool) (rest : ℕ) → layoutFault l component lengths rest ≡ 0 → Accepted l × (component ≡ true) × (lengths ≡ true)
+pub chain : (l : Layout) (component lengths : Bool) (rest : ℕ) → layoutFault l component lengths rest ≡ 0 → Accepted l × (component ≡ true) × (lengths ≡ true)
 unfolding layoutFault
 chain l component lengths rest q =
     let p1 = passed (pictureSizeValid (l .picture)) 0 _ q in

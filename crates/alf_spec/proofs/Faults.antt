@@ -58,14 +58,19 @@ module _ (l : Layout) (component lengths : Bool) (rest : ℕ) where
 
 -- ---- a judge that goes on after the layout's
 
--- the code has the layout's answer a, and its own answers c and v to the operation's tests of 4 and 5
-module _ (l : Layout) {component lengths c v : Bool} (ec : c ≡ component) (ev : v ≡ lengths) (rest : ℕ) (a : Answer) where
+-- the code has the answer v to the operation's test of 5
+pub lengths-same : (l : Layout) (component : Bool) {v lengths : Bool} → v ≡ lengths → layoutFault l component v 0 ≡ layoutFault l component lengths 0
+lengths-same l component e = ap (λ (b : Bool). layoutFault l component b 0) e
+
+-- the code has the layout's answer a, where c and v are its own answers to the operation's tests of 4 and 5
+module _ (l : Layout) (component lengths c v : Bool) (same : layoutFault l c v 0 ≡ layoutFault l component lengths 0) (rest : ℕ)
+    (a : Answer) (judged : number a ≡ layoutFault l c v 0) where
   -- it leaves with that answer
-  pub layout-leaves : {f : Fault} → a ≡ Rejected f → number a ≡ layoutFault l c v 0 → number a ≡ layoutFault l component lengths rest
-  layout-leaves {f} e p =
-      let same : number a ≡ suc (pred (faultNumber f)) = ap number e ∙ numbered f in
-      rw (← ec, ← ev) (same ∙ sym (layout-rejects l c v rest (sym p ∙ same)))
+  pub layout-leaves : {f : Fault} → a ≡ Rejected f → number a ≡ layoutFault l component lengths rest
+  layout-leaves {f} e =
+      let n : number a ≡ suc (pred (faultNumber f)) = ap number e ∙ numbered f in
+      n ∙ sym (layout-rejects l component lengths rest (sym same ∙ sym judged ∙ n))
 
   -- it goes on, and its number m is that of what comes after
-  pub layout-goes : a ≡ Accepted → number a ≡ layoutFault l c v 0 → {m : ℕ} → m ≡ rest → m ≡ layoutFault l component lengths rest
-  layout-goes e p q = rw (← ec, ← ev) (q ∙ sym (layout-accepts l c v rest (sym p ∙ ap number e)))
+  pub layout-goes : a ≡ Accepted → {m : ℕ} → m ≡ rest → m ≡ layoutFault l component lengths rest
+  layout-goes e q = q ∙ sym (layout-accepts l component lengths rest (sym same ∙ sym judged ∙ ap number e))

@@ -3,7 +3,6 @@ use mathlib.Core.Path.{_≡_, refl, sym, _∙_}
 use mathlib.Core.Bool.{Bool, false, not, _&&_}
 use mathlib.Core.List.{List, []}
 use Prim.Native.Nat.{ℕ, _-_, _*_, _<_}
-use native.Mathlib.Nat.{mul-le-mul}
 use native.Mathlib.Omega.{arith}
 use borrow.Author.Tests.{not-false, eqb-true}
 use lib.ListN.{length}
@@ -17,11 +16,11 @@ use Rattle.alf_spec.specs.Faults.{layoutLengthsValid, virtualListValid, virtual
 use Rattle.alf_spec.proofs.Scans.{every-up-to}
 use Rattle.alf_spec.proofs.Tests.{both}
 use Rattle.alf_math.specs.Grids.{GridOf}
-use Rattle.alf_math.proofs.Grids.{grid-columns, grid-rows, grid-total}
+use Rattle.alf_math.proofs.Grids.{few-ctbs, grid-columns, grid-rows, grid-total}
 
 -- the CTBs of a grid can be counted
 pub total-fits : {p : Picture} {g : Grid} → GridOf p g → g .columns * g .rows < 18446744073709551616
-total-fits h = let few = mul-le-mul (h .columnsHigh) (h .rowsHigh) in omega arith
+total-fits h = omega (arith, few-ctbs h)
 
 -- a layout of a picture that has this grid
 module _ (l : Layout) (p : Picture) (g : Grid) (h : GridOf p g) (e : l .picture ≡ p) where

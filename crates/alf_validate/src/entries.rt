@@ -1,9 +1,10 @@
-// Whether every entry of a table is below a limit. No entry ends the loop, so that it may go by vectors.
+// Tests of every entry of a table or a plane. The loops go on past an entry that fails, so that they can run as vector code.
 ghost use mathlib.Core.Path.{_≡_};
 ghost use lib.Dec.{ltb};
 ghost use Rattle.alf_spec.specs.Lists.{every};
+ghost use Rattle.alf_spec.specs.Faults.{coeffValid};
 
-// Whether every byte is below the limit.
+// Whether each number is below the limit.
 pub fn bytes_below(list: &[u8], limit: u32) -> bool
     ensures { λ r. ⌜ r ≡ every (λ n. ltb n limit) (now (list .entry)) ⌝ }
 {
@@ -11,6 +12,52 @@ pub fn bytes_below(list: &[u8], limit: u32) -> bool
     let mut i = 0;
     while i < list.len() {
         good = good & ((list[i] as u32) < limit);
+        i += 1;
+    }
+    good
+}
+
+// The same of a plane's samples, compared at their own width.
+pub fn samples_below(list: &[u16], limit: u16) -> bool
+    ensures { λ r. ⌜ r ≡ every (λ n. ltb n limit) (now (list .entry)) ⌝ }
+{
+    let mut good = true;
+    let mut i = 0;
+    while i < list.len() {
+        good = good & (list[i] < limit);
+        i += 1;
+    }
+    good
+}
+
+// The same of CTB addresses.
+pub fn addresses_below(list: &[u32], limit: u32) -> bool
+    ensures { λ r. ⌜ r ≡ every (λ n. ltb n limit) (now (list .entry)) ⌝ }
+{
+    let mut good = true;
+    let mut i = 0;
+    while i < list.len() {
+        good = good & (list[i] < limit);
+        i += 1;
+    }
+    good
+}
+
+// Whether a coefficient is from -128 to 127.
+pub fn coeff_valid(coefficient: i16) -> bool
+    ensures { λ r. ⌜ r ≡ coeffValid coefficient ⌝ }
+{
+    (-128 <= coefficient) & (coefficient <= 127)
+}
+
+// Whether each coefficient of a table is.
+pub fn coefficients_valid(list: &[i16]) -> bool
+    ensures { λ r. ⌜ r ≡ every coeffValid (now (list .entry)) ⌝ }
+{
+    let mut good = true;
+    let mut i = 0;
+    while i < list.len() {
+        good = good & coeff_valid(list[i]);
         i += 1;
     }
     good

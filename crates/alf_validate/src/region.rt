@@ -3,13 +3,14 @@ ghost use mathlib.Core.Path.{_≡_};
 ghost use Rattle.alf_spec.specs.Input.{Layout};
 ghost use Rattle.alf_spec.specs.Faults.{regionLengthValid, regionValid};
 use crate::entries::bytes_below;
+use crate::operation_lengths::plane_fits;
 use alf_spec::Picture;
 
 // Cause 5: whether a region has an entry for each 8 by 8 luma block.
 pub fn region_length_valid(picture: Picture, region: &[u8]) -> bool
     ensures { λ r. ⌜ ((l : Layout) → l .picture ≡ picture → r ≡ regionLengthValid l (now (region .entry))) ⌝ }
 {
-    region.len() as u64 == (picture.width / 8) as u64 * (picture.height / 8) as u64
+    plane_fits(picture, 8, region.len())
 }
 
 // Cause 14: whether each entry of a region is 0 or 1.

@@ -6,7 +6,8 @@ use Rattle.alf_spec.specs.Input.{Layout, layoutOf}
 use Rattle.alf_spec.proofs.Accepted.{accepted-layout}
 use Rattle.alf_spec.proofs.Scans.{Passed, scans, scan-stop, scan-done}
 use Rattle.alf_boundary.specs.Steps.{addressPasses}
-use Rattle.alf_boundary.proofs.CtbAddresses.{few-ctbs, isolated-test}
+use Rattle.alf_math.proofs.Grids.{few-ctbs}
+use Rattle.alf_boundary.proofs.CtbAddresses.{isolated-test}
 use Rattle.alf_boundary.proofs.isolation.region_isolated.Statement.{statement}
 use Rattle.alf_boundary.proofs.isolation.region_isolated.Tie as tie
 

@@ -1,0 +1,64 @@
+-- Laws of cause 5: products and quotients of lengths, and what an operation's own lengths depend on. Assumes nothing.
+use mathlib.Core.Path.{_≡_, refl}
+use mathlib.Core.Bool.{Bool, true, _&&_}
+use mathlib.Core.List.{List, []}
+use Prim.Native.Nat.{ℕ, _*_, _/_, _%_, _^_, _≤_, _<_}
+use native.Mathlib.Nat.{div-le-self, mul-le-mul}
+use native.Mathlib.Omega.{arith}
+use borrow.Author.Tests.{eqb-true, eq-eqb}
+use lib.Dec.{eqb}
+use lib.ListN.{length}
+use Rattle.alf_spec.specs.declared.Picture.{Picture}
+use Rattle.alf_spec.specs.Lists.{within}
+use Rattle.alf_spec.specs.Input.{Layout, Operation, classes, luma, chroma, crossComponent, Input, inputOf, classesInput}
+use Rattle.alf_spec.specs.Geometry.{planeOf, ctbColumns, ctbRows, ctbTotal}
+use Rattle.alf_spec.specs.Faults.{layoutLengthsValid, filterLengthsValid, fixedLengthsValid, lengthsValid}
+use Rattle.alf_spec.proofs.Tests.{both, same-test}
+use Rattle.alf_validate.specs.Tables.{mapLayout}
+
+-- the samples of a plane fit 64 bits
+pub product-fits : (w h r : ℕ) → w < 2 ^ 32 → h < 2 ^ 32 → w / r * (h / r) < 2 ^ 64
+product-fits w h r hw hh =
+    let wide : w / r ≤ 4294967295 = omega (arith, div-le-self w r) in
+    let high : h / r ≤ 4294967295 = omega (arith, div-le-self h r) in
+    omega (arith, mul-le-mul wide high)
+
+-- n is 8 times m
+pub eight-each : (m n : ℕ) → (eqb (n / 8) m && eqb (n % 8) 0) ≡ eqb n (8 * m)
+eight-each m n =
+    same-test _ _
+    (λ e.
+    let h = both (eqb (n / 8) m) (eqb (n % 8) 0) e in
+    let q = eqb-true (n / 8) m (h .0) in
+    let r = eqb-true (n % 8) 0 (h .1) in
+    eq-eqb n (8 * m) (omega arith))
+    (λ e. let q = eqb-true n (8 * m) e in simp (eq-eqb (n / 8) m (omega arith), eq-eqb (n % 8) 0 (omega arith)))
+
+-- where the layout's lengths are right, the slice map has an entry for each CTB
+pub full-map : (l : Layout) → layoutLengthsValid l ≡ true → length (l .sliceMap) ≡ ctbTotal l
+unfolding layoutLengthsValid
+full-map l e =
+    let afterCount = both (within 1 256 (l .picture .«slice_count»)) _ e .1 in
+    let afterColumns = both (eqb (length (l .tileColumns)) (ctbColumns l)) _ afterCount .1 in
+    let afterRows = both (eqb (length (l .tileRows)) (ctbRows l)) _ afterColumns .1 in
+    eqb-true (length (l .sliceMap)) _ (both (eqb (length (l .sliceMap)) (ctbTotal l)) _ afterRows .0)
+
+-- of the layout, an operation's own lengths depend on the picture and the slice map, and not on the CTB list
+abbrev pub lengthsInput : Input → Input
+lengthsInput i =
+    inputOf (mapLayout (i .layout .picture) (i .layout .sliceMap)) (i .luma) (i .chroma) (i .sliceParams) (i .bank) (i .ctbParams) []
+    (i .fixedFilters) (i .fixedMap) (i .outputLength)
+
+pub lengths-of : (op : Operation) (i : Input) → lengthsValid op (lengthsInput i) ≡ lengthsValid op i
+unfolding lengthsValid filterLengthsValid fixedLengthsValid planeOf
+lengths-of classes i = refl
+lengths-of luma i = refl
+lengths-of (chroma component) i = refl
+lengths-of (crossComponent component) i = refl
+
+-- those of the class map do not depend on the slice map either
+pub classes-lengths : (picture : Picture) (sliceMap plane : List ℕ) (n : ℕ) {r : Bool}
+    → r ≡ lengthsValid classes (classesInput (mapLayout picture []) plane n)
+    → r ≡ lengthsValid classes (classesInput (mapLayout picture sliceMap) plane n)
+unfolding lengthsValid planeOf
+classes-lengths picture sliceMap plane n e = e

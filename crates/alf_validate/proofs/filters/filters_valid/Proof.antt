@@ -1,0 +1,13 @@
+-- `alf_validate::filters::filters_valid` meets its contract. Assumes nothing.
+use borrow.Author.Needs.{needs}
+use Rattle.alf_validate.proofs.BitDepth.{depth-high}
+use Rattle.alf_validate.proofs.filters.filters_valid.Statement.{statement}
+use Rattle.alf_validate.proofs.filters.filters_valid.Tie as tie
+
+pub filters-valid-spec : {M : Type 1} → statement M
+filters-valid-spec =
+    tie.close
+    (tie.spec
+    (λ c κs. depth-high _ (c .before .pre))
+    (λ c κs. search needs)
+    (λ c. rw (c .before .bank-valid .ensures, c .fixed-valid .ensures)))

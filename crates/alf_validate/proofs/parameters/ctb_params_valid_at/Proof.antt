@@ -1,0 +1,17 @@
+-- `alf_validate::parameters::ctb_params_valid_at` meets its contract. Assumes nothing.
+use borrow.Author.Needs.{needs}
+use Rattle.alf_spec.specs.Faults.{ctbParamsValidAt}
+use Rattle.alf_validate.proofs.parameters.ctb_params_valid_at.Statement.{statement}
+use Rattle.alf_validate.proofs.parameters.ctb_params_valid_at.Tie as tie
+
+pub ctb-params-valid-at-spec : {M : Type 1} → statement M
+unfolding ctbParamsValidAt
+ctb-params-valid-at-spec =
+    tie.close
+    (tie.spec
+    (λ c κs. search needs)
+    (λ c κs. search needs)
+    (λ c.
+    let f = c .before .before in
+    let a = f .before .before .before .before .args in
+    rw (f .ranges-valid .ensures, c .chroma-zero .ensures (a .slice-map .now) (a .slice-params .now))))

@@ -1,0 +1,261 @@
+// The lowest fault of each operation's input. An operation judges the layout first, with its own component and lengths beside causes 4 and 5.
+ghost use mathlib.Core.Path.{_≡_};
+ghost use mathlib.Core.Bool.{not, _&&_};
+ghost use lib.Dec.{eqb, leb};
+ghost use Rattle.alf_spec.specs.Input.{layoutOf, classes, luma as ofLuma, chroma as ofChroma, crossComponent, classesInput, lumaInput, chromaInput, crossInput};
+ghost use Rattle.alf_spec.specs.Answers.{number};
+ghost use Rattle.alf_spec.specs.Faults.{fault};
+use crate::filter_tables::filter_tables_fault;
+use crate::layout::layout_fault;
+use crate::operation_lengths::chroma_lengths_valid;
+use crate::operation_lengths::classes_lengths_valid;
+use crate::operation_lengths::cross_component_lengths_valid;
+use crate::operation_lengths::luma_lengths_valid;
+use crate::samples::samples_valid;
+use alf_spec::Answer;
+use alf_spec::Fault;
+use alf_spec::Picture;
+
+// Whether there is chroma, and the component is Cb or Cr.
+fn component_valid(picture: Picture, component: u8) -> bool
+    ensures { λ r. ⌜ r ≡ (not (eqb (picture .«chroma_format») 0) && leb component 1) ⌝ }
+{
+    !(picture.chroma_format == 0) & (component <= 1)
+}
+
+// The lowest fault of the class map's input.
+pub fn judge_classes(
+    picture: Picture,
+    virtual_columns: &[u16],
+    virtual_rows: &[u16],
+    tile_columns: &[u8],
+    tile_rows: &[u8],
+    slice_map: &[u8],
+    subpic_map: &[u8],
+    subpic_across: &[u8],
+    luma: &[u16],
+    output_length: usize,
+) -> Answer
+    ensures { λ r. ⌜ number r ≡ fault classes (classesInput
+        (layoutOf picture (now («virtual_columns» .entry)) (now («virtual_rows» .entry)) (now («tile_columns» .entry))
+        (now («tile_rows» .entry)) (now («slice_map» .entry)) (now («subpic_map» .entry)) (now («subpic_across» .entry)))
+        (now (luma .entry)) «output_length») ⌝ }
+{
+    let lengths_valid = classes_lengths_valid(picture, luma, output_length);
+    let layout = layout_fault(
+        picture,
+        virtual_columns,
+        virtual_rows,
+        tile_columns,
+        tile_rows,
+        slice_map,
+        subpic_map,
+        subpic_across,
+        true,
+        lengths_valid,
+    );
+    let Answer::Accepted = layout else {
+        return layout;
+    };
+    if !samples_valid(picture, luma) {
+        return Answer::Rejected(Fault::Sample);
+    }
+    Answer::Accepted
+}
+
+// The lowest fault of the luma filter's input.
+pub fn judge_luma(
+    picture: Picture,
+    virtual_columns: &[u16],
+    virtual_rows: &[u16],
+    tile_columns: &[u8],
+    tile_rows: &[u8],
+    slice_map: &[u8],
+    subpic_map: &[u8],
+    subpic_across: &[u8],
+    slice_params: &[u8],
+    bank: &[i16],
+    ctb_params: &[u8],
+    ctb_list: &[u32],
+    fixed_filters: &[i16],
+    fixed_map: &[u8],
+    luma: &[u16],
+    output_length: usize,
+) -> Answer
+    ensures { λ r. ⌜ number r ≡ fault ofLuma (lumaInput
+        (layoutOf picture (now («virtual_columns» .entry)) (now («virtual_rows» .entry)) (now («tile_columns» .entry))
+        (now («tile_rows» .entry)) (now («slice_map» .entry)) (now («subpic_map» .entry)) (now («subpic_across» .entry)))
+        (now («slice_params» .entry)) (now (bank .entry)) (now («ctb_params» .entry)) (now («ctb_list» .entry))
+        (now («fixed_filters» .entry)) (now («fixed_map» .entry)) (now (luma .entry)) «output_length») ⌝ }
+{
+    let lengths_valid = luma_lengths_valid(
+        picture,
+        slice_map,
+        slice_params,
+        bank,
+        ctb_params,
+        fixed_filters,
+        fixed_map,
+        luma,
+        output_length,
+    );
+    let layout = layout_fault(
+        picture,
+        virtual_columns,
+        virtual_rows,
+        tile_columns,
+        tile_rows,
+        slice_map,
+        subpic_map,
+        subpic_across,
+        true,
+        lengths_valid,
+    );
+    let Answer::Accepted = layout else {
+        return layout;
+    };
+    let no_samples: [u16; 0] = [];
+    filter_tables_fault(
+        picture,
+        slice_map,
+        slice_params,
+        bank,
+        ctb_params,
+        ctb_list,
+        fixed_filters,
+        fixed_map,
+        luma,
+        &no_samples,
+    )
+}
+
+// The lowest fault of the chroma filter's input.
+pub fn judge_chroma(
+    picture: Picture,
+    virtual_columns: &[u16],
+    virtual_rows: &[u16],
+    tile_columns: &[u8],
+    tile_rows: &[u8],
+    slice_map: &[u8],
+    subpic_map: &[u8],
+    subpic_across: &[u8],
+    component: u8,
+    slice_params: &[u8],
+    bank: &[i16],
+    ctb_params: &[u8],
+    ctb_list: &[u32],
+    chroma: &[u16],
+    output_length: usize,
+) -> Answer
+    ensures { λ r. ⌜ number r ≡ fault (ofChroma component) (chromaInput
+        (layoutOf picture (now («virtual_columns» .entry)) (now («virtual_rows» .entry)) (now («tile_columns» .entry))
+        (now («tile_rows» .entry)) (now («slice_map» .entry)) (now («subpic_map» .entry)) (now («subpic_across» .entry)))
+        (now («slice_params» .entry)) (now (bank .entry)) (now («ctb_params» .entry)) (now («ctb_list» .entry))
+        (now (chroma .entry)) «output_length») ⌝ }
+{
+    let lengths_valid = chroma_lengths_valid(
+        picture,
+        slice_map,
+        slice_params,
+        bank,
+        ctb_params,
+        chroma,
+        output_length,
+    );
+    let layout = layout_fault(
+        picture,
+        virtual_columns,
+        virtual_rows,
+        tile_columns,
+        tile_rows,
+        slice_map,
+        subpic_map,
+        subpic_across,
+        component_valid(picture, component),
+        lengths_valid,
+    );
+    let Answer::Accepted = layout else {
+        return layout;
+    };
+    let no_filters: [i16; 0] = [];
+    let no_map: [u8; 0] = [];
+    let no_samples: [u16; 0] = [];
+    filter_tables_fault(
+        picture,
+        slice_map,
+        slice_params,
+        bank,
+        ctb_params,
+        ctb_list,
+        &no_filters,
+        &no_map,
+        &no_samples,
+        chroma,
+    )
+}
+
+// The lowest fault of the cross-component filter's input.
+pub fn judge_cross_component(
+    picture: Picture,
+    virtual_columns: &[u16],
+    virtual_rows: &[u16],
+    tile_columns: &[u8],
+    tile_rows: &[u8],
+    slice_map: &[u8],
+    subpic_map: &[u8],
+    subpic_across: &[u8],
+    component: u8,
+    slice_params: &[u8],
+    bank: &[i16],
+    ctb_params: &[u8],
+    ctb_list: &[u32],
+    luma: &[u16],
+    chroma: &[u16],
+    output_length: usize,
+) -> Answer
+    ensures { λ r. ⌜ number r ≡ fault (crossComponent component) (crossInput
+        (layoutOf picture (now («virtual_columns» .entry)) (now («virtual_rows» .entry)) (now («tile_columns» .entry))
+        (now («tile_rows» .entry)) (now («slice_map» .entry)) (now («subpic_map» .entry)) (now («subpic_across» .entry)))
+        (now («slice_params» .entry)) (now (bank .entry)) (now («ctb_params» .entry)) (now («ctb_list» .entry))
+        (now (luma .entry)) (now (chroma .entry)) «output_length») ⌝ }
+{
+    let lengths_valid = cross_component_lengths_valid(
+        picture,
+        slice_map,
+        slice_params,
+        bank,
+        ctb_params,
+        luma,
+        chroma,
+        output_length,
+    );
+    let layout = layout_fault(
+        picture,
+        virtual_columns,
+        virtual_rows,
+        tile_columns,
+        tile_rows,
+        slice_map,
+        subpic_map,
+        subpic_across,
+        component_valid(picture, component),
+        lengths_valid,
+    );
+    let Answer::Accepted = layout else {
+        return layout;
+    };
+    let no_filters: [i16; 0] = [];
+    let no_map: [u8; 0] = [];
+    filter_tables_fault(
+        picture,
+        slice_map,
+        slice_params,
+        bank,
+        ctb_params,
+        ctb_list,
+        &no_filters,
+        &no_map,
+        luma,
+        chroma,
+    )
+}
