@@ -1,0 +1,186 @@
+// Runs paper 01's examples of judging and of the isolation test, and an input for each number of its table.
+
+mod damaged;
+
+use alf::fault_number;
+use alf::isolated;
+use alf_spec::Fault;
+use alf_spec::Isolation;
+use alf_spec::Picture;
+use libc::STDOUT_FILENO;
+
+// The blocks of the left and of the right half of a picture of 64 by 32 samples.
+const LEFT: [u8; 32] = [
+    1,
+    1,
+    1,
+    1,
+    0,
+    0,
+    0,
+    0,
+    1,
+    1,
+    1,
+    1,
+    0,
+    0,
+    0,
+    0,
+    1,
+    1,
+    1,
+    1,
+    0,
+    0,
+    0,
+    0,
+    1,
+    1,
+    1,
+    1,
+    0,
+    0,
+    0,
+    0,
+];
+
+const RIGHT: [u8; 32] = [
+    0,
+    0,
+    0,
+    0,
+    1,
+    1,
+    1,
+    1,
+    0,
+    0,
+    0,
+    0,
+    1,
+    1,
+    1,
+    1,
+    0,
+    0,
+    0,
+    0,
+    1,
+    1,
+    1,
+    1,
+    0,
+    0,
+    0,
+    0,
+    1,
+    1,
+    1,
+    1,
+];
+
+pub fn print(text: &[u8]) {
+    io::write_all(STDOUT_FILENO, text);
+}
+
+pub fn print_number(n: u32) {
+    io::print_decimal(STDOUT_FILENO, n as u64);
+}
+
+// What the isolation test answers.
+fn show(answer: Isolation) {
+    match answer {
+        Isolation::Isolated => print(b"isolated\n"),
+        Isolation::NotIsolated => print(b"not isolated\n"),
+        Isolation::Rejected(fault) => show_fault(fault),
+    }
+}
+
+fn show_fault(fault: Fault) {
+    print(b"rejected, number ");
+    print_number(fault_number(fault) as u32);
+    print(b"\n");
+}
+
+// One slice, all switches on.
+fn plain(width: u32, height: u32, ctb_log2: u8) -> Picture {
+    Picture {
+        width: width,
+        height: height,
+        ctb_log2: ctb_log2,
+        bit_depth: 8,
+        chroma_format: 0,
+        slice_count: 1,
+        across_tiles: true,
+        across_slices: true,
+    }
+}
+
+// A picture so wide, with one row of CTBs of 128 that have these tile columns, slices and subpictures, and a region of it.
+fn show_width(width: u32, numbers: &[u8], region: &[u8]) {
+    let virtual_columns: [u16; 0] = [];
+    let virtual_rows: [u16; 0] = [];
+    let tile_rows = [0u8; 1];
+    let subpic_across = [1u8; 64];
+    print(b"  ");
+    print_number(width);
+    print(b" -> ");
+    show(isolated(
+        plain(width, 8, 7),
+        &virtual_columns,
+        &virtual_rows,
+        numbers,
+        &tile_rows,
+        numbers,
+        numbers,
+        &subpic_across,
+        region,
+    ));
+}
+
+// Two subpictures side by side in one tile and slice, no virtual boundary, left switch off, right on.
+fn show_half(region: &[u8]) {
+    let virtual_columns: [u16; 0] = [];
+    let virtual_rows: [u16; 0] = [];
+    let tile_columns = [0u8; 2];
+    let tile_rows = [0u8; 1];
+    let slice_map = [0u8; 2];
+    let subpic_map = [0u8, 1];
+    let mut subpic_across = [1u8; 64];
+    subpic_across[0] = 0;
+    show(isolated(
+        plain(64, 32, 5),
+        &virtual_columns,
+        &virtual_rows,
+        &tile_columns,
+        &tile_rows,
+        &slice_map,
+        &subpic_map,
+        &subpic_across,
+        region,
+    ));
+}
+
+fn main() {
+    print(b"picture widths\n");
+    let ctb = [0u8; 1];
+    let ctbs = [0u8; 32];
+    let block = [0u8; 1];
+    let blocks = [0u8; 512];
+    show_width(8, &ctb, &block);
+    show_width(4096, &ctbs, &blocks);
+    show_width(0, &ctb, &block);
+    show_width(12, &ctb, &block);
+    show_width(4104, &ctbs, &blocks);
+    print(b"two subpictures side by side, left switch off, right on\n  left: ");
+    let left = LEFT;
+    show_half(&left);
+    print(b"  right: ");
+    let right = RIGHT;
+    show_half(&right);
+    print(
+        b"the number answered where this cause alone is broken, and where all from it to 13 are\n",
+    );
+    damaged::show_all();
+}
