@@ -2,15 +2,16 @@
 .PHONY: help demo test check fmt
 
 help:
-	@echo "make demo    prove what the worked examples need, and run them"
+	@echo "make demo    prove what the examples need, and run them"
 	@echo "make test    every proof from nothing, every must-fail edit, every program: the gate"
 	@echo "make check   what changed since the last check, without the must-fail edits"
 	@echo "make fmt     lay the sources out"
 
 demo:
-	@echo "Proving alf_spec, alf_math and worked_examples (the first time about a minute) ..."
-	@log=$$(mktemp); rt check worked_examples > $$log 2>&1 || { cat $$log; rm -f $$log; exit 1; }; rm -f $$log
+	@echo "Proving the library and the examples (the first time a few minutes) ..."
+	@log=$$(mktemp); rt check worked_examples judge_examples > $$log 2>&1 || { cat $$log; rm -f $$log; exit 1; }; rm -f $$log
 	@./target/bin/worked_examples
+	@./target/bin/judge_examples
 
 test:
 	@scripts/test.sh

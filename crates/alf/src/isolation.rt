@@ -25,8 +25,15 @@ pub fn isolated(
     subpic_across: &[u8],
     region: &[u8],
 ) -> Isolation
-    ensures numbered { λ r. ⌜ isolationNumber r ≡ isolationFault (layoutOf picture (now («virtual_columns» .entry)) (now («virtual_rows» .entry)) (now («tile_columns» .entry)) (now («tile_rows» .entry)) (now («slice_map» .entry)) (now («subpic_map» .entry)) (now («subpic_across» .entry))) (now (region .entry)) ⌝ }
-    ensures answered { λ r. ⌜ saysIsolated r ≡ (eqb (isolationFault (layoutOf picture (now («virtual_columns» .entry)) (now («virtual_rows» .entry)) (now («tile_columns» .entry)) (now («tile_rows» .entry)) (now («slice_map» .entry)) (now («subpic_map» .entry)) (now («subpic_across» .entry))) (now (region .entry))) 0 && isolatedBy (layoutOf picture (now («virtual_columns» .entry)) (now («virtual_rows» .entry)) (now («tile_columns» .entry)) (now («tile_rows» .entry)) (now («slice_map» .entry)) (now («subpic_map» .entry)) (now («subpic_across» .entry))) (now (region .entry))) ⌝ }
+    ensures numbered { λ r. ⌜ isolationNumber r ≡ isolationFault
+        (layoutOf picture (now («virtual_columns» .entry)) (now («virtual_rows» .entry)) (now («tile_columns» .entry))
+        (now («tile_rows» .entry)) (now («slice_map» .entry)) (now («subpic_map» .entry)) (now («subpic_across» .entry))) (now (region .entry)) ⌝ }
+    ensures answered { λ r. ⌜ saysIsolated r ≡ (eqb (isolationFault
+        (layoutOf picture (now («virtual_columns» .entry)) (now («virtual_rows» .entry)) (now («tile_columns» .entry))
+        (now («tile_rows» .entry)) (now («slice_map» .entry)) (now («subpic_map» .entry)) (now («subpic_across» .entry))) (now (region .entry))) 0
+        && isolatedBy
+        (layoutOf picture (now («virtual_columns» .entry)) (now («virtual_rows» .entry)) (now («tile_columns» .entry))
+        (now («tile_rows» .entry)) (now («slice_map» .entry)) (now («subpic_map» .entry)) (now («subpic_across» .entry))) (now (region .entry))) ⌝ }
 {
     let answer = judge_isolation(
         picture,

@@ -1,6 +1,6 @@
 -- The tables that say of which tile, slice and subpicture a CTB is, and a CTB's sides as code has them. Assumes nothing.
 use mathlib.Core.Path.{_≡_}
-use mathlib.Core.Bool.{Bool, true}
+use mathlib.Core.Bool.{true}
 use mathlib.Core.List.{List}
 use Prim.Native.Nat.{ℕ, _*_}
 use lib.Dec.{ltb}

@@ -1,6 +1,6 @@
 -- What an answer of the judge says of the fault's number. Assumes nothing.
 use mathlib.Core.Path.{_≡_, refl, sym, _∙_, ap}
-use mathlib.Core.Bool.{Bool, true, false, _&&_}
+use mathlib.Core.Bool.{Bool, false, _&&_}
 use Prim.Native.Nat.{ℕ, suc, pred}
 use lib.Dec.{eqb, eqb·suc-zero}
 use Rattle.alf_spec.specs.declared.Fault.{Fault}
@@ -35,7 +35,8 @@ module _ (a : Answer) {n : ℕ} (e : number a ≡ n) where
   pub rejects : {f : Fault} → a ≡ Rejected f → (says : Bool) → (faultNumber f ≡ n) × (false ≡ (eqb n 0 && says))
   rejects {f} q says =
       let same : faultNumber f ≡ n = sym (ap number q) ∙ e in
-      (same, sym (ap (λ (m : ℕ). eqb m 0 && says) (sym same) ∙ ap (λ (b : Bool). b && says) (ap (λ (m : ℕ). eqb m 0) (numbered f) ∙ eqb·suc-zero (pred (faultNumber f)))))
+      let some : eqb (faultNumber f) 0 ≡ false = ap (λ (m : ℕ). eqb m 0) (numbered f) ∙ eqb·suc-zero (pred (faultNumber f)) in
+      (same, rw (← same, some))
 
   -- it says what was found
   pub finds : a ≡ Accepted → {found says : Bool} → found ≡ says → {r : Bool} → found ≡ r → (0 ≡ n) × (r ≡ (eqb n 0 && says))

@@ -3,8 +3,7 @@
 use mathlib.Core.Path.{_≡_, refl, sym, _∙_, ap}
 use mathlib.Core.Bool.{Bool, true, false, _&&_}
 use mathlib.Core.List.{List, []}
-use Prim.Native.Nat.{ℕ, suc, pred, _*_, _≤_}
-use native.Mathlib.Nat.{mul-le-mul}
+use Prim.Native.Nat.{ℕ, _*_}
 use borrow.Author.Tests.{eqb-true}
 use lib.Dec.{eqb, ltb}
 use lib.IntN.{ℤ}
@@ -15,7 +14,7 @@ use Rattle.alf_spec.specs.declared.Answer.the-variants as answer
 use Rattle.alf_spec.specs.Lists.{implies, every}
 use Rattle.alf_spec.specs.Input.{Layout, Operation, given, Input, inputOf}
 use Rattle.alf_spec.specs.Geometry.{ctbSize, planeOf, ctbTotal}
-use Rattle.alf_spec.specs.Answers.{faultNumber, number}
+use Rattle.alf_spec.specs.Answers.{number}
 use Rattle.alf_spec.specs.Faults.{bitDepthValid, componentValid, layoutLengthsValid, filterLengthsValid, lengthsValid, cornersValid, sliceCorner, slicesValid, layoutFault, tablesFault, fault}
 use Rattle.alf_spec.proofs.Tests.{both, implied}
 use Rattle.alf_spec.proofs.Accepted.{Accepted, chain}

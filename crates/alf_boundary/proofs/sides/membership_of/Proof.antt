@@ -14,5 +14,7 @@ membership-of-spec =
     (λ c. search needs)
     (λ c. search needs)
     (λ c. search needs)
-    (λ c κs. rw (c .before .before .before .before .address .ensures) (c .before .before .before .before .before .before .before .before .before .before .before .before .pre .switch))
+    (λ c κs.
+    let at = c .before .before .before .before in
+    rw (at .address .ensures) (at .before .before .before .before .before .before .before .before .pre .switch))
     (λ c. rw (c .switch-of .ensures, c .before .before .before .before .before .address .ensures)))

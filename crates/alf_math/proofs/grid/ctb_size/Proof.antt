@@ -1,5 +1,4 @@
 -- `alf_math::grid::ctb_size` meets its contract. Assumes nothing.
-use native.Mathlib.Omega.{arith}
 use borrow.Author.Needs.{needs}
 use Rattle.alf_math.proofs.grid.ctb_size.Statement.{statement}
 use Rattle.alf_math.proofs.grid.ctb_size.Tie as tie
