@@ -25,15 +25,11 @@ pub fn isolated(
     subpic_across: &[u8],
     region: &[u8],
 ) -> Isolation
-    ensures numbered { λ r. ⌜ isolationNumber r ≡ isolationFault
-        (layoutOf picture (now («virtual_columns» .entry)) (now («virtual_rows» .entry)) (now («tile_columns» .entry))
-        (now («tile_rows» .entry)) (now («slice_map» .entry)) (now («subpic_map» .entry)) (now («subpic_across» .entry))) (now (region .entry)) ⌝ }
-    ensures answered { λ r. ⌜ saysIsolated r ≡ (eqb (isolationFault
-        (layoutOf picture (now («virtual_columns» .entry)) (now («virtual_rows» .entry)) (now («tile_columns» .entry))
-        (now («tile_rows» .entry)) (now («slice_map» .entry)) (now («subpic_map» .entry)) (now («subpic_across» .entry))) (now (region .entry))) 0
-        && isolatedBy
-        (layoutOf picture (now («virtual_columns» .entry)) (now («virtual_rows» .entry)) (now («tile_columns» .entry))
-        (now («tile_rows» .entry)) (now («slice_map» .entry)) (now («subpic_map» .entry)) (now («subpic_across» .entry))) (now (region .entry))) ⌝ }
+    ensures { λ r. ⌜ (
+        let layout = layoutOf picture (now («virtual_columns» .entry)) (now («virtual_rows» .entry)) (now («tile_columns» .entry))
+        (now («tile_rows» .entry)) (now («slice_map» .entry)) (now («subpic_map» .entry)) (now («subpic_across» .entry)) in
+        let fault = isolationFault layout (now (region .entry)) in
+        (isolationNumber r ≡ fault) × (saysIsolated r ≡ (eqb fault 0 && isolatedBy layout (now (region .entry))))) ⌝ }
 {
     let answer = judge_isolation(
         picture,
