@@ -1,19 +1,19 @@
--- What causes 10 to 13 look at, and which of them an operation judges. Assumes nothing.
+-- What causes 10 to 13 look at, which of them an operation judges, and a filter's fault from its own tests. Assumes nothing.
 use mathlib.Core.Path.{_≡_, refl, sym, _∙_, ap}
 use mathlib.Core.Bool.{Bool, true, false, not, _&&_}
 use mathlib.Core.List.{List}
 use Prim.Native.Nat.{ℕ}
-use lib.Dec.{ltb}
+use lib.Dec.{eqb, ltb}
 use lib.IntN.{ℤ}
 use lib.ListN.{length}
 use Rattle.alf_spec.specs.Lists.{everyFrom, every}
 use Rattle.alf_spec.specs.Input.{Layout, classes, luma, chroma, crossComponent, Input, classesInput, lumaInput, chromaInput, crossInput}
-use Rattle.alf_spec.specs.Geometry.{planeOf, ctbTotal}
+use Rattle.alf_spec.specs.Geometry.{planeOf, lumaPlane, chromaPlane, planeLength, ctbTotal}
 use Rattle.alf_spec.specs.Boundary.{sliceOf}
 use Rattle.alf_spec.specs.Parameters.{ctbParam, sliceParam}
-use Rattle.alf_spec.specs.Faults.{sliceParamsValid, ctbRangesValid, ctbChromaZero, ctbParamsValidAt, parametersValid, bankValid, fixedValid, samplesValid, addressesValid, unless, tablesFault}
+use Rattle.alf_spec.specs.Faults.{componentValid, fixedLengthsValid, lengthsValid, sliceParamsValid, ctbRangesValid, ctbChromaZero, ctbParamsValidAt, parametersValid, bankValid, fixedValid, samplesValid, addressesValid, unless, tablesFault, fault}
 use Rattle.alf_spec.proofs.Faults.{stops, goes}
-use Rattle.alf_validate.specs.Tables.{parametersInput, tablesInput, filterTablesFault}
+use Rattle.alf_validate.specs.Tables.{parametersInput, tablesInput, filterTablesFault, filterFault}
 
 module _ (i : Input) where
   -- cause 10 looks at the parameters alone
@@ -41,23 +41,28 @@ pub tables-of : (i : Input) → filterTablesFault (tablesOf i) ≡ filterTablesF
 unfolding filterTablesFault bankValid fixedValid addressesValid planeOf
 tables-of i = rw (← parameters-same (tablesOf i), parameters-same i)
 
--- what a filter is not given is empty, and passes
+-- a filter's fault, where its code has the answers to its own tests: what the filter is not given is empty, and passes
 module _ (l : Layout) (sliceParams : List ℕ) (bank : List ℤ) (ctbParams ctbList : List ℕ) (n : ℕ) where
-  pub luma-tables : (fixedFilters : List ℤ) (fixedMap plane : List ℕ)
-      → let i = lumaInput l sliceParams bank ctbParams ctbList fixedFilters fixedMap plane n in filterTablesFault i ≡ tablesFault luma i
-  unfolding filterTablesFault tablesFault samplesValid everyFrom
-  luma-tables fixedFilters fixedMap plane = refl
+  pub luma-fault : (fixedFilters : List ℤ) (fixedMap plane : List ℕ) {given output : Bool}
+      → given ≡ eqb (length plane) (planeLength (lumaPlane l)) → output ≡ eqb n (planeLength (lumaPlane l))
+      → let i = lumaInput l sliceParams bank ctbParams ctbList fixedFilters fixedMap plane n in
+      filterFault i true (fixedLengthsValid i && (given && output)) ≡ fault luma i
+  unfolding filterFault fault componentValid lengthsValid filterTablesFault tablesFault samplesValid everyFrom
+  luma-fault fixedFilters fixedMap plane e f = rw (e, f)
 
-  pub chroma-tables : (component : ℕ) (plane : List ℕ)
-      → let i = chromaInput l sliceParams bank ctbParams ctbList plane n in filterTablesFault i ≡ tablesFault (chroma component) i
-  unfolding filterTablesFault tablesFault fixedValid samplesValid everyFrom
-  chroma-tables component plane = refl
+  pub chroma-fault : (component : ℕ) (plane : List ℕ) {valid given output : Bool} → valid ≡ componentValid (chroma component) (l .picture)
+      → given ≡ eqb (length plane) (planeLength (chromaPlane l)) → output ≡ eqb n (planeLength (chromaPlane l))
+      → let i = chromaInput l sliceParams bank ctbParams ctbList plane n in filterFault i valid (given && output) ≡ fault (chroma component) i
+  unfolding filterFault fault lengthsValid filterTablesFault tablesFault fixedValid samplesValid everyFrom
+  chroma-fault component plane v e f = rw (v, e, f)
 
-  pub cross-tables : (component : ℕ) (lumaPlane chromaPlane : List ℕ)
-      → let i = crossInput l sliceParams bank ctbParams ctbList lumaPlane chromaPlane n in
-      filterTablesFault i ≡ tablesFault (crossComponent component) i
-  unfolding filterTablesFault tablesFault fixedValid everyFrom
-  cross-tables component lumaPlane chromaPlane = refl
+  pub cross-fault : (component : ℕ) (lumaSamples chromaSamples : List ℕ) {valid givenLuma givenChroma output : Bool}
+      → valid ≡ componentValid (crossComponent component) (l .picture) → givenLuma ≡ eqb (length lumaSamples) (planeLength (lumaPlane l))
+      → givenChroma ≡ eqb (length chromaSamples) (planeLength (chromaPlane l)) → output ≡ eqb n (planeLength (chromaPlane l))
+      → let i = crossInput l sliceParams bank ctbParams ctbList lumaSamples chromaSamples n in
+      filterFault i valid (givenLuma && (givenChroma && output)) ≡ fault (crossComponent component) i
+  unfolding filterFault fault lengthsValid filterTablesFault tablesFault fixedValid everyFrom
+  cross-fault component lumaSamples chromaSamples v e f g = rw (v, e, f, g)
 
 and-true : (a : Bool) → (a && true) ≡ a
 and-true true = refl

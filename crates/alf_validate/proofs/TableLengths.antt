@@ -1,20 +1,18 @@
--- Laws of cause 5: products and quotients of lengths, and what an operation's own lengths depend on. Assumes nothing.
-use mathlib.Core.Path.{_≡_, refl}
+-- Laws of cause 5: products and quotients of lengths, the slice map's length, and the lengths of the class map's input. Assumes nothing.
+use mathlib.Core.Path.{_≡_}
 use mathlib.Core.Bool.{Bool, true, _&&_}
-use mathlib.Core.List.{List, []}
+use mathlib.Core.List.{List}
 use Prim.Native.Nat.{ℕ, _*_, _/_, _%_, _^_, _≤_, _<_}
 use native.Mathlib.Nat.{div-le-self, mul-le-mul}
 use native.Mathlib.Omega.{arith}
 use borrow.Author.Tests.{eqb-true, eq-eqb}
 use lib.Dec.{eqb}
 use lib.ListN.{length}
-use Rattle.alf_spec.specs.declared.Picture.{Picture}
 use Rattle.alf_spec.specs.Lists.{within}
-use Rattle.alf_spec.specs.Input.{Layout, Operation, classes, luma, chroma, crossComponent, Input, inputOf, classesInput}
-use Rattle.alf_spec.specs.Geometry.{planeOf, ctbColumns, ctbRows, ctbTotal}
-use Rattle.alf_spec.specs.Faults.{layoutLengthsValid, filterLengthsValid, fixedLengthsValid, lengthsValid}
+use Rattle.alf_spec.specs.Input.{Layout, classes, classesInput}
+use Rattle.alf_spec.specs.Geometry.{lumaPlane, classPlane, planeLength, ctbColumns, ctbRows, ctbTotal}
+use Rattle.alf_spec.specs.Faults.{layoutLengthsValid, lengthsValid, layoutFault}
 use Rattle.alf_spec.proofs.Tests.{both, same-test}
-use Rattle.alf_validate.specs.Tables.{mapLayout}
 
 -- the samples of a plane fit 64 bits
 pub product-fits : (w h r : ℕ) → w < 2 ^ 32 → h < 2 ^ 32 → w / r * (h / r) < 2 ^ 64
@@ -43,22 +41,9 @@ full-map l e =
     let afterRows = both (eqb (length (l .tileRows)) (ctbRows l)) _ afterColumns .1 in
     eqb-true (length (l .sliceMap)) _ (both (eqb (length (l .sliceMap)) (ctbTotal l)) _ afterRows .0)
 
--- of the layout, an operation's own lengths depend on the picture and the slice map, and not on the CTB list
-abbrev pub lengthsInput : Input → Input
-lengthsInput i =
-    inputOf (mapLayout (i .layout .picture) (i .layout .sliceMap)) (i .luma) (i .chroma) (i .sliceParams) (i .bank) (i .ctbParams) []
-    (i .fixedFilters) (i .fixedMap) (i .outputLength)
-
-pub lengths-of : (op : Operation) (i : Input) → lengthsValid op (lengthsInput i) ≡ lengthsValid op i
-unfolding lengthsValid filterLengthsValid fixedLengthsValid planeOf
-lengths-of classes i = refl
-lengths-of luma i = refl
-lengths-of (chroma component) i = refl
-lengths-of (crossComponent component) i = refl
-
--- those of the class map do not depend on the slice map either
-pub classes-lengths : (picture : Picture) (sliceMap plane : List ℕ) (n : ℕ) {r : Bool}
-    → r ≡ lengthsValid classes (classesInput (mapLayout picture []) plane n)
-    → r ≡ lengthsValid classes (classesInput (mapLayout picture sliceMap) plane n)
-unfolding lengthsValid planeOf
-classes-lengths picture sliceMap plane n e = e
+-- the class map's lengths: the code has the answers a to that of the plane, and b to that of the output
+pub classes-lengths : (l : Layout) (plane : List ℕ) (n : ℕ) {a b : Bool}
+    → a ≡ eqb (length plane) (planeLength (lumaPlane l)) → b ≡ eqb n (planeLength (classPlane l))
+    → layoutFault l true (a && b) 0 ≡ layoutFault l true (lengthsValid classes (classesInput l plane n)) 0
+unfolding lengthsValid
+classes-lengths l plane n e f = rw (e, f)

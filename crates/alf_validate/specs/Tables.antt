@@ -1,6 +1,6 @@
 -- The parts of an input that causes 10 to 13 look at, and what causes 1 to 9 have shown of them. Assumes nothing.
 use mathlib.Core.Path.{_≡_}
-use mathlib.Core.Bool.{true, _&&_}
+use mathlib.Core.Bool.{Bool, true, _&&_}
 use mathlib.Core.List.{List, []}
 use Prim.Native.Nat.{ℕ, _*_, _≤_}
 use lib.Dec.{ltb}
@@ -10,7 +10,7 @@ use Rattle.alf_spec.specs.declared.Picture.{Picture}
 use Rattle.alf_spec.specs.Lists.{every}
 use Rattle.alf_spec.specs.Input.{Layout, layoutOf, Input, inputOf}
 use Rattle.alf_spec.specs.Geometry.{ctbTotal}
-use Rattle.alf_spec.specs.Faults.{bitDepthValid, parametersValid, bankValid, fixedValid, samplesValid, addressesValid, unless}
+use Rattle.alf_spec.specs.Faults.{bitDepthValid, filterLengthsValid, parametersValid, bankValid, fixedValid, samplesValid, addressesValid, unless, layoutFault}
 
 -- of the layout, they look at the picture and the slice map
 abbrev pub mapLayout : Picture → List ℕ → Layout
@@ -45,3 +45,7 @@ pub record TablesFit (picture : Picture) (sliceMap sliceParams ctbParams : List 
   pub parameters : ParametersFit picture sliceMap sliceParams ctbParams
   pub full : length sliceMap ≡ ctbTotal (mapLayout picture sliceMap)
   pub few : length sliceMap ≤ 16384
+
+-- a filter's lowest fault, from its own tests of its component, and of the lengths of its planes, fixed tables and output
+unfoldable pub filterFault : Input → Bool → Bool → ℕ
+filterFault i component lengths = layoutFault (i .layout) component (filterLengthsValid i && lengths) (filterTablesFault i)

@@ -2,15 +2,15 @@
 ghost use mathlib.Core.Path.{_≡_};
 ghost use mathlib.Core.Bool.{not, _&&_};
 ghost use lib.Dec.{eqb, leb};
-ghost use Rattle.alf_spec.specs.Input.{layoutOf, classes, luma as ofLuma, chroma as ofChroma, crossComponent, classesInput, lumaInput, chromaInput, crossInput};
+ghost use Prim.Native.Nat.{ℕ};
+ghost use Rattle.alf_spec.specs.Input.{layoutOf, classes, luma as ofLuma, chroma as ofChroma, crossComponent, inputOf, classesInput, lumaInput, chromaInput, crossInput};
 ghost use Rattle.alf_spec.specs.Answers.{number};
 ghost use Rattle.alf_spec.specs.Faults.{fault};
+ghost use Rattle.alf_validate.specs.Tables.{filterFault};
 use crate::filter_tables::filter_tables_fault;
 use crate::layout::layout_fault;
-use crate::operation_lengths::chroma_lengths_valid;
-use crate::operation_lengths::classes_lengths_valid;
-use crate::operation_lengths::cross_component_lengths_valid;
-use crate::operation_lengths::luma_lengths_valid;
+use crate::operation_lengths::filter_tables_fit;
+use crate::operation_lengths::plane_fits;
 use crate::samples::samples_valid;
 use alf_spec::Answer;
 use alf_spec::Fault;
@@ -41,7 +41,7 @@ pub fn judge_classes(
         (now («tile_rows» .entry)) (now («slice_map» .entry)) (now («subpic_map» .entry)) (now («subpic_across» .entry)))
         (now (luma .entry)) «output_length») ⌝ }
 {
-    let lengths_valid = classes_lengths_valid(picture, luma, output_length);
+    let lengths_valid = plane_fits(picture, 1, luma.len()) & plane_fits(picture, 4, output_length);
     let layout = layout_fault(
         picture,
         virtual_columns,
@@ -61,6 +61,64 @@ pub fn judge_classes(
         return Answer::Rejected(Fault::Sample);
     }
     Answer::Accepted
+}
+
+// A filter's lowest fault, from its own tests beside causes 4 and 5: of its component, and of the lengths of its planes, fixed tables and
+// output. What the filter is not given is empty.
+fn judge_filter(
+    picture: Picture,
+    virtual_columns: &[u16],
+    virtual_rows: &[u16],
+    tile_columns: &[u8],
+    tile_rows: &[u8],
+    slice_map: &[u8],
+    subpic_map: &[u8],
+    subpic_across: &[u8],
+    component_valid: bool,
+    lengths_valid: bool,
+    slice_params: &[u8],
+    bank: &[i16],
+    ctb_params: &[u8],
+    ctb_list: &[u32],
+    fixed_filters: &[i16],
+    fixed_map: &[u8],
+    luma: &[u16],
+    chroma: &[u16],
+) -> Answer
+    ensures { λ r. ⌜ ((n : ℕ) → number r ≡ filterFault (inputOf
+        (layoutOf picture (now («virtual_columns» .entry)) (now («virtual_rows» .entry)) (now («tile_columns» .entry))
+        (now («tile_rows» .entry)) (now («slice_map» .entry)) (now («subpic_map» .entry)) (now («subpic_across» .entry)))
+        (now (luma .entry)) (now (chroma .entry)) (now («slice_params» .entry)) (now (bank .entry)) (now («ctb_params» .entry))
+        (now («ctb_list» .entry)) (now («fixed_filters» .entry)) (now («fixed_map» .entry)) n) «component_valid» «lengths_valid») ⌝ }
+{
+    let tables_fit = filter_tables_fit(picture, slice_map, slice_params, bank, ctb_params);
+    let layout = layout_fault(
+        picture,
+        virtual_columns,
+        virtual_rows,
+        tile_columns,
+        tile_rows,
+        slice_map,
+        subpic_map,
+        subpic_across,
+        component_valid,
+        tables_fit & lengths_valid,
+    );
+    let Answer::Accepted = layout else {
+        return layout;
+    };
+    filter_tables_fault(
+        picture,
+        slice_map,
+        slice_params,
+        bank,
+        ctb_params,
+        ctb_list,
+        fixed_filters,
+        fixed_map,
+        luma,
+        chroma,
+    )
 }
 
 // The lowest fault of the luma filter's input.
@@ -88,18 +146,9 @@ pub fn judge_luma(
         (now («slice_params» .entry)) (now (bank .entry)) (now («ctb_params» .entry)) (now («ctb_list» .entry))
         (now («fixed_filters» .entry)) (now («fixed_map» .entry)) (now (luma .entry)) «output_length») ⌝ }
 {
-    let lengths_valid = luma_lengths_valid(
-        picture,
-        slice_map,
-        slice_params,
-        bank,
-        ctb_params,
-        fixed_filters,
-        fixed_map,
-        luma,
-        output_length,
-    );
-    let layout = layout_fault(
+    let lengths_valid = ((fixed_filters.len() == 64 * 12) & (fixed_map.len() == 16 * 25))
+        & (plane_fits(picture, 1, luma.len()) & plane_fits(picture, 1, output_length));
+    judge_filter(
         picture,
         virtual_columns,
         virtual_rows,
@@ -110,14 +159,6 @@ pub fn judge_luma(
         subpic_across,
         true,
         lengths_valid,
-    );
-    let Answer::Accepted = layout else {
-        return layout;
-    };
-    let no_samples: [u16; 0] = [];
-    filter_tables_fault(
-        picture,
-        slice_map,
         slice_params,
         bank,
         ctb_params,
@@ -125,7 +166,7 @@ pub fn judge_luma(
         fixed_filters,
         fixed_map,
         luma,
-        &no_samples,
+        &[],
     )
 }
 
@@ -153,16 +194,9 @@ pub fn judge_chroma(
         (now («slice_params» .entry)) (now (bank .entry)) (now («ctb_params» .entry)) (now («ctb_list» .entry))
         (now (chroma .entry)) «output_length») ⌝ }
 {
-    let lengths_valid = chroma_lengths_valid(
-        picture,
-        slice_map,
-        slice_params,
-        bank,
-        ctb_params,
-        chroma,
-        output_length,
-    );
-    let layout = layout_fault(
+    let lengths_valid = plane_fits(picture, 2, chroma.len())
+        & plane_fits(picture, 2, output_length);
+    judge_filter(
         picture,
         virtual_columns,
         virtual_rows,
@@ -173,23 +207,13 @@ pub fn judge_chroma(
         subpic_across,
         component_valid(picture, component),
         lengths_valid,
-    );
-    let Answer::Accepted = layout else {
-        return layout;
-    };
-    let no_filters: [i16; 0] = [];
-    let no_map: [u8; 0] = [];
-    let no_samples: [u16; 0] = [];
-    filter_tables_fault(
-        picture,
-        slice_map,
         slice_params,
         bank,
         ctb_params,
         ctb_list,
-        &no_filters,
-        &no_map,
-        &no_samples,
+        &[],
+        &[],
+        &[],
         chroma,
     )
 }
@@ -219,17 +243,9 @@ pub fn judge_cross_component(
         (now («slice_params» .entry)) (now (bank .entry)) (now («ctb_params» .entry)) (now («ctb_list» .entry))
         (now (luma .entry)) (now (chroma .entry)) «output_length») ⌝ }
 {
-    let lengths_valid = cross_component_lengths_valid(
-        picture,
-        slice_map,
-        slice_params,
-        bank,
-        ctb_params,
-        luma,
-        chroma,
-        output_length,
-    );
-    let layout = layout_fault(
+    let lengths_valid = plane_fits(picture, 1, luma.len())
+        & (plane_fits(picture, 2, chroma.len()) & plane_fits(picture, 2, output_length));
+    judge_filter(
         picture,
         virtual_columns,
         virtual_rows,
@@ -240,21 +256,12 @@ pub fn judge_cross_component(
         subpic_across,
         component_valid(picture, component),
         lengths_valid,
-    );
-    let Answer::Accepted = layout else {
-        return layout;
-    };
-    let no_filters: [i16; 0] = [];
-    let no_map: [u8; 0] = [];
-    filter_tables_fault(
-        picture,
-        slice_map,
         slice_params,
         bank,
         ctb_params,
         ctb_list,
-        &no_filters,
-        &no_map,
+        &[],
+        &[],
         luma,
         chroma,
     )

@@ -1,33 +1,23 @@
--- `alf_validate::judges::judge_luma` meets its contract: the layout's answer, then that of its tables. Assumes nothing.
-use mathlib.Core.Path.{refl}
+-- `alf_validate::judges::judge_luma` meets its contract: its own tests are of the fixed tables, the luma plane and the output. Assumes nothing.
+use mathlib.Core.Path.{_∙_}
 use borrow.Author.Needs.{needs}
-use Rattle.alf_spec.specs.Faults.{componentValid}
-use Rattle.alf_validate.proofs.FilterTables.{luma-tables}
-use Rattle.alf_validate.proofs.LowestFault.{rejects, filter-accepts, filter-fits}
+use Rattle.alf_spec.specs.Geometry.{planeOf}
+use Rattle.alf_spec.specs.Faults.{fixedLengthsValid}
+use Rattle.alf_validate.proofs.FilterTables.{luma-fault}
 use Rattle.alf_validate.proofs.judges.judge_luma.Statement.{statement}
 use Rattle.alf_validate.proofs.judges.judge_luma.Tie as tie
 
 pub judge-luma-spec : {M : Type 1} → statement M
-unfolding componentValid
+unfolding planeOf fixedLengthsValid
 judge-luma-spec =
     tie.close
     (tie.spec
+    (λ c. search needs)
+    (λ c. search needs)
     (λ c κs. search needs)
     (λ c κs. search needs)
     (λ c. search needs)
-    (λ c. search needs)
+    (λ c κs. search needs)
     (λ c.
-    let j = c .before .before in
-    rejects _ _ _ _ refl (j .before .luma-lengths-valid .ensures) _ (j .layout-fault .ensures)
-    (c .enum-told2 .given .1))
-    (λ c. search needs)
-    (λ c κs.
-    let t = c .before in
-    let j = t .before .before in
-    filter-fits _ _ _ _ (j .layout-fault .ensures) (t .enum-told .given .1)
-    _ _ _ _ _ _ _ _ _ (j .before .luma-lengths-valid .ensures) refl)
-    (λ c.
-    let t = c .before .before in
-    let j = t .before .before in
-    filter-accepts _ _ _ _ refl (j .before .luma-lengths-valid .ensures) _ (j .layout-fault .ensures)
-    (luma-tables _ _ _ _ _ _ _ _ _) (t .enum-told .given .1) (c .filter-tables-fault .ensures)))
+    let b = c .before .before in
+    c .judge-filter .ensures _ ∙ luma-fault _ _ _ _ _ _ _ _ _ (b .before .plane-fits .ensures) (b .plane-fits2 .ensures)))
