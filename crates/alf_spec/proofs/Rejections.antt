@@ -29,8 +29,8 @@ mapped p columns tiles slices subpics switches = layout p columns tiles (0 ∷ 0
 abbrev plain : Picture → Layout
 plain p = mapped p [] (0 ∷ 0 ∷ []) (replicate 4 0) (replicate 4 0) (replicate 64 1)
 
-abbrev inputOf : Layout → List ℕ → List ℕ → List ℤ → List ℕ → List ℕ → ℕ → Input
-inputOf l sliceParams ctbParams bank plane list outputLength = record {
+abbrev smallInput : Layout → List ℕ → List ℕ → List ℤ → List ℕ → List ℕ → ℕ → Input
+smallInput l sliceParams ctbParams bank plane list outputLength = record {
   layout = l;
   luma = plane;
   chroma = replicate 400 0;
@@ -51,10 +51,10 @@ flat = replicate 6016 (pos 0)
 
 -- with all else in order
 abbrev onLayout : Layout → Input
-onLayout l = inputOf l (zeros 22) (zeros 32) flat (zeros 1600) [] 1600
+onLayout l = smallInput l (zeros 22) (zeros 32) flat (zeros 1600) [] 1600
 
 abbrev onTables : List ℕ → List ℕ → List ℤ → List ℕ → List ℕ → Input
-onTables sliceParams ctbParams bank plane list = inputOf (plain good) sliceParams ctbParams bank plane list 1600
+onTables sliceParams ctbParams bank plane list = smallInput (plain good) sliceParams ctbParams bank plane list 1600
 
 -- ---- the claim
 
@@ -63,8 +63,8 @@ pub record Rejections : Type 0 where
   pub widths : map sizeValid (8 ∷ 4096 ∷ 0 ∷ 12 ∷ 4104 ∷ []) ≡ true ∷ true ∷ false ∷ false ∷ false ∷ []
   -- accepted
   pub accepts : fault luma (onLayout (plain good)) ≡ 0
-  pub accepts-chroma : fault (chroma 1) (inputOf (plain good) (zeros 22) (zeros 32) flat [] (3 ∷ 3 ∷ []) 400) ≡ 0
-  pub accepts-classes : fault classes (inputOf (plain good) [] [] [] (zeros 1600) [] 100) ≡ 0
+  pub accepts-chroma : fault (chroma 1) (smallInput (plain good) (zeros 22) (zeros 32) flat [] (3 ∷ 3 ∷ []) 400) ≡ 0
+  pub accepts-classes : fault classes (smallInput (plain good) [] [] [] (zeros 1600) [] 100) ≡ 0
   pub accepts-region : isolationFault (plain good) (zeros 25) ≡ 0
   -- clips up to 2^B, where coefficients end at 127
   pub accepts-clips : fault luma (onTables (zeros 22) (zeros 32) (set (set flat 12 (pos 256)) 606 (pos 256)) (zeros 1600) []) ≡ 0
@@ -78,7 +78,7 @@ pub record Rejections : Type 0 where
   pub r4 : fault luma (onLayout (plain (sized 40 5 8 2 2))) ∷ fault (chroma 0) (onLayout (plain (sized 40 5 8 0 2))) ∷ fault (crossComponent 2) (onLayout (plain good)) ∷ []
       ≡ 4 ∷ 4 ∷ 4 ∷ []
   pub r5 : map (λ n. fault luma (onLayout (plain (sized 40 5 8 1 n)))) (0 ∷ 257 ∷ 3 ∷ []) ≡ 5 ∷ 5 ∷ 5 ∷ []
-  pub r5-output : fault luma (inputOf (plain good) (zeros 22) (zeros 32) flat (zeros 1600) [] 1599) ≡ 5
+  pub r5-output : fault luma (smallInput (plain good) (zeros 22) (zeros 32) flat (zeros 1600) [] 1599) ≡ 5
   pub r6 : map (λ v. fault luma (onLayout (mapped good v (0 ∷ 0 ∷ []) (zeros 4) (zeros 4) (replicate 64 1)))) ((4 ∷ []) ∷ (40 ∷ []) ∷ (8 ∷ 32 ∷ []) ∷ []) ≡ 6 ∷ 6 ∷ 6 ∷ []
   pub r7 : map (λ t. fault luma (onLayout (mapped good [] t (zeros 4) (zeros 4) (replicate 64 1)))) ((1 ∷ 1 ∷ []) ∷ (0 ∷ 2 ∷ []) ∷ []) ≡ 7 ∷ 7 ∷ []
   pub r8 : map (λ s. fault luma (onLayout (mapped good [] (0 ∷ 1 ∷ []) s (zeros 4) (replicate 64 1)))) ((0 ∷ 0 ∷ 0 ∷ 2 ∷ []) ∷ (2 ∷ 0 ∷ 0 ∷ 0 ∷ []) ∷ []) ≡ 8 ∷ 8 ∷ []
@@ -93,7 +93,7 @@ pub record Rejections : Type 0 where
   pub r13 : fault luma (onTables (zeros 22) (zeros 32) flat (zeros 1600) (0 ∷ 4 ∷ [])) ≡ 13
   pub r14 : isolationFault (plain good) (set (zeros 25) 24 2) ≡ 14
   -- the lowest of several
-  pub lowest : fault luma (inputOf (plain (sized 12 8 13 2 0)) [] [] [] [] (9 ∷ []) 0) ≡ 1
+  pub lowest : fault luma (smallInput (plain (sized 12 8 13 2 0)) [] [] [] [] (9 ∷ []) 0) ≡ 1
 
 pub rejections : Rejections
 unfolding allBelow everyFrom ctbSize subWidth subHeight planeOf sliceOf ctbParam sliceParam pictureSizeValid ctbSizeValid bitDepthValid chromaFormatValid componentValid layoutLengthsValid filterLengthsValid fixedLengthsValid lengthsValid apartAt virtualListValid virtualBoundariesValid followsAt tileListValid tilesValid cornerAt cornersInRow cornersValid slicesValid subpicturesValid sliceParamsValid ctbRangesValid ctbChromaZero ctbParamsValidAt parametersValid coeffValid clipValid isClip bankNumberValid bankValid fixedValid samplesValid addressesValid regionLengthValid regionValid unless layoutFault tablesFault fault isolationFault

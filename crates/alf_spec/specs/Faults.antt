@@ -245,7 +245,8 @@ unfoldable pub tablesFault : Operation → Input → ℕ
 tablesFault op i =
     unless (implies (given op .filters) (parametersValid i)) 10
     (unless (implies (given op .filters) (bankValid i) && implies (given op .fixed) (fixedValid i)) 11
-    (unless (implies (given op .luma) (samplesValid (i .layout .picture) (i .luma)) && implies (given op .chroma) (samplesValid (i .layout .picture) (i .chroma))) 12
+    (unless (implies (given op .luma) (samplesValid (i .layout .picture) (i .luma))
+    && implies (given op .chroma) (samplesValid (i .layout .picture) (i .chroma))) 12
     (unless (implies (given op .filters) (addressesValid i)) 13 0)))
 
 -- 0 where the operation accepts the input

@@ -18,15 +18,18 @@ judge-isolation-spec =
     (λ c. search needs)
     (λ c.
     let called = c .before .before in
-    layout-leaves _ _ _ _ _ (lengths-same _ true (called .before .region-length-valid .ensures _ refl)) _ _ (called .layout-fault .ensures) (c .enum-told2 .given .1))
+    layout-leaves _ _ _ _ _ (lengths-same _ true (called .before .region-length-valid .ensures _ refl)) _ _
+    (called .layout-fault .ensures) (c .enum-told2 .given .1))
     (λ c κs. search needs)
     (λ c.
     let told = c .before .before in
     let called = told .before .before in
-    layout-goes _ _ _ _ _ (lengths-same _ true (called .before .region-length-valid .ensures _ refl)) _ _ (called .layout-fault .ensures) (told .enum-told .given .1)
+    layout-goes _ _ _ _ _ (lengths-same _ true (called .before .region-length-valid .ensures _ refl)) _ _
+    (called .layout-fault .ensures) (told .enum-told .given .1)
     (stops _ _ (c .before .region-valid .ensures) (c .if1 .taken)))
     (λ c.
     let told = c .before .before in
     let called = told .before .before in
-    layout-goes _ _ _ _ _ (lengths-same _ true (called .before .region-length-valid .ensures _ refl)) _ _ (called .layout-fault .ensures) (told .enum-told .given .1)
+    layout-goes _ _ _ _ _ (lengths-same _ true (called .before .region-length-valid .ensures _ refl)) _ _
+    (called .layout-fault .ensures) (told .enum-told .given .1)
     (goes _ _ (c .before .region-valid .ensures) (c .if1 .left) refl)))

@@ -1,4 +1,5 @@
--- `alf_validate::layout::layout_tables_fault` meets its contract: where cause 5 does not apply, each map has the length that the grid calls for. Assumes nothing.
+-- `alf_validate::layout::layout_tables_fault` meets its contract: where cause 5 does not apply, each map is as long as the grid calls for.
+-- Assumes nothing.
 use borrow.Author.Needs.{needs}
 use Rattle.alf_spec.proofs.Faults.{stops, goes, and-same}
 use Rattle.alf_validate.specs.Chains.{layoutTablesFault}
