@@ -1,11 +1,26 @@
-// The CTB grid of a picture.
+// The CTB grid of a picture, and how its chroma planes lie on it.
 ghost use mathlib.Core.Path.{_≡_};
 ghost use mathlib.Core.Bool.{true};
 ghost use Prim.Native.Nat.{_+_, _-_, _/_, _^_, _≤_, _<_};
+ghost use Rattle.alf_spec.specs.Geometry.{subWidth, subHeight};
 ghost use Rattle.alf_spec.specs.Faults.{pictureSizeValid, ctbSizeValid};
 ghost use Rattle.alf_math.specs.Grids.{GridOf};
 use alf_spec::Grid;
 use alf_spec::Picture;
+
+// SubWidthC
+pub fn sub_width(picture: Picture) -> u32
+    ensures { λ r. ⌜ (r ≡ subWidth picture) × (0 < r) ⌝ }
+{
+    2
+}
+
+// SubHeightC
+pub fn sub_height(picture: Picture) -> u32
+    ensures { λ r. ⌜ (r ≡ subHeight picture) × (0 < r) ⌝ }
+{
+    2
+}
 
 // CtbSizeY
 fn ctb_size(ctb_log2: u8) -> u32

@@ -1,13 +1,13 @@
 -- What causes 10 to 13 look at, which of them an operation judges, and a filter's fault from its own tests. Assumes nothing.
 use mathlib.Core.Path.{_≡_, refl, sym, _∙_, ap}
-use mathlib.Core.Bool.{Bool, true, false, not, _&&_}
-use mathlib.Core.List.{List}
+use mathlib.Core.Bool.{Bool, true, false, not, _&&_, and-true}
+use mathlib.Core.List.{List, []}
 use Prim.Native.Nat.{ℕ}
 use lib.Dec.{eqb, ltb}
 use lib.IntN.{ℤ}
 use lib.ListN.{length}
 use Rattle.alf_spec.specs.Lists.{everyFrom, every}
-use Rattle.alf_spec.specs.Input.{Layout, classes, luma, chroma, crossComponent, Input, classesInput, lumaInput, chromaInput, crossInput}
+use Rattle.alf_spec.specs.Input.{Layout, classes, luma, chroma, crossComponent, Input, inputOf, classesInput, lumaInput, chromaInput, crossInput}
 use Rattle.alf_spec.specs.Geometry.{planeOf, lumaPlane, chromaPlane, planeLength, ctbTotal}
 use Rattle.alf_spec.specs.Boundary.{sliceOf}
 use Rattle.alf_spec.specs.Parameters.{ctbParam, sliceParam}
@@ -27,9 +27,10 @@ module _ (i : Input) where
 
   -- where the slice map has an entry for each CTB, its length serves for the number of CTBs
   pub addresses-of : length (i .layout .sliceMap) ≡ ctbTotal (i .layout) → {r : Bool}
-      → r ≡ every (λ n. ltb n (length (i .layout .sliceMap))) (i .ctbList) → r ≡ addressesValid i
+      → ((l : Layout) → ctbTotal l ≡ length (i .layout .sliceMap) → r ≡ addressesValid (inputOf l [] [] [] [] [] (i .ctbList) [] [] 0))
+      → r ≡ addressesValid i
   unfolding addressesValid
-  addresses-of full e = e ∙ ap (λ (m : ℕ). every (λ n. ltb n m) (i .ctbList)) full
+  addresses-of full e = e (i .layout) (sym full)
 
 -- the parts that the causes look at
 abbrev pub tablesOf : Input → Input
@@ -63,10 +64,6 @@ module _ (l : Layout) (sliceParams : List ℕ) (bank : List ℤ) (ctbParams ctbL
       filterFault i valid (givenLuma && (givenChroma && output)) ≡ fault (crossComponent component) i
   unfolding filterFault fault lengthsValid filterTablesFault tablesFault fixedValid everyFrom
   cross-fault component lumaSamples chromaSamples v e f g = rw (v, e, f, g)
-
-and-true : (a : Bool) → (a && true) ≡ a
-and-true true = refl
-and-true false = refl
 
 -- of these causes the class map has 12 alone: the code has the answer of its plane's test
 module _ (l : Layout) (plane : List ℕ) (n : ℕ) {r : Bool} (e : r ≡ samplesValid (l .picture) plane) where

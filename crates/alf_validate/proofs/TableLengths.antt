@@ -15,9 +15,9 @@ use Rattle.alf_spec.specs.Faults.{layoutLengthsValid, lengthsValid, layoutFault
 use Rattle.alf_spec.proofs.Tests.{both, same-test}
 
 -- the samples of a plane fit 64 bits
-pub product-fits : (w h r : ℕ) → w < 2 ^ 32 → h < 2 ^ 32 → w / r * (h / r) < 2 ^ 64
-product-fits w h r hw hh =
-    let wide : w / r ≤ 4294967295 = omega (arith, div-le-self w r) in
+pub product-fits : (w h q r : ℕ) → w < 2 ^ 32 → h < 2 ^ 32 → w / q * (h / r) < 2 ^ 64
+product-fits w h q r hw hh =
+    let wide : w / q ≤ 4294967295 = omega (arith, div-le-self w q) in
     let high : h / r ≤ 4294967295 = omega (arith, div-le-self h r) in
     omega (arith, mul-le-mul wide high)
 

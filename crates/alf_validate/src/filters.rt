@@ -1,10 +1,12 @@
 // Cause 11: coefficients, clips and the fixed map.
 ghost use mathlib.Core.Path.{_≡_};
 ghost use mathlib.Core.Bool.{true, _&&_};
+ghost use mathlib.Core.List.{[]};
 ghost use Prim.Native.Nat.{_≤_};
 ghost use lib.Dec.{ltb};
 ghost use Rattle.alf_spec.specs.Lists.{every, everyFrom};
-ghost use Rattle.alf_spec.specs.Faults.{bitDepthValid, isClip, coeffValid, clipValid, bankNumberValid};
+ghost use Rattle.alf_spec.specs.Faults.{bitDepthValid, isClip, coeffValid, clipValid, bankNumberValid, bankValid, fixedValid};
+ghost use Rattle.alf_validate.specs.Tables.{tablesInput};
 use crate::entries::bytes_below;
 use crate::entries::coeff_valid;
 use crate::entries::coefficients_valid;
@@ -70,8 +72,9 @@ pub fn filters_valid(
     fixed_map: &[u8],
 ) -> bool
     requires { ⌜ bitDepthValid picture ≡ true ⌝ }
-    ensures { λ r. ⌜ r ≡ (everyFrom 0 (bankNumberValid (picture .«bit_depth»)) (now (bank .entry))
-        && (every coeffValid (now («fixed_filters» .entry)) && every (λ n. ltb n 64) (now («fixed_map» .entry)))) ⌝ }
+    ensures { λ r. ⌜ (
+        let i = tablesInput picture [] [] (now (bank .entry)) [] [] (now («fixed_filters» .entry)) (now («fixed_map» .entry)) [] [] in
+        r ≡ (bankValid i && fixedValid i)) ⌝ }
 {
     bank_valid(picture.bit_depth, bank) & fixed_valid(fixed_filters, fixed_map)
 }

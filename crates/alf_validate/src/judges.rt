@@ -1,14 +1,13 @@
-// The lowest fault of each operation's input. An operation judges the layout first, with its own component and lengths beside causes 4 and 5.
+// The lowest fault of the input of each operation that has an output. An operation judges the layout first, with its own component and lengths beside causes 4 and 5.
 ghost use mathlib.Core.Path.{_≡_};
-ghost use mathlib.Core.Bool.{not, _&&_};
-ghost use lib.Dec.{eqb, leb};
 ghost use Prim.Native.Nat.{ℕ};
 ghost use Rattle.alf_spec.specs.Input.{layoutOf, classes, luma as ofLuma, chroma as ofChroma, crossComponent, inputOf, classesInput, lumaInput, chromaInput, crossInput};
 ghost use Rattle.alf_spec.specs.Answers.{number};
-ghost use Rattle.alf_spec.specs.Faults.{fault};
+ghost use Rattle.alf_spec.specs.Faults.{componentValid, fault};
 ghost use Rattle.alf_validate.specs.Tables.{filterFault};
 use crate::filter_tables::filter_tables_fault;
 use crate::layout::layout_fault;
+use crate::operation_lengths::chroma_fits;
 use crate::operation_lengths::filter_tables_fit;
 use crate::operation_lengths::plane_fits;
 use crate::samples::samples_valid;
@@ -18,7 +17,7 @@ use alf_spec::Picture;
 
 // Whether there is chroma, and the component is Cb or Cr.
 fn component_valid(picture: Picture, component: u8) -> bool
-    ensures { λ r. ⌜ r ≡ (not (eqb (picture .«chroma_format») 0) && leb component 1) ⌝ }
+    ensures { λ r. ⌜ (r ≡ componentValid (ofChroma component) picture) × (r ≡ componentValid (crossComponent component) picture) ⌝ }
 {
     !(picture.chroma_format == 0) & (component <= 1)
 }
@@ -41,7 +40,8 @@ pub fn judge_classes(
         (now («tile_rows» .entry)) (now («slice_map» .entry)) (now («subpic_map» .entry)) (now («subpic_across» .entry)))
         (now (luma .entry)) «output_length») ⌝ }
 {
-    let lengths_valid = plane_fits(picture, 1, luma.len()) & plane_fits(picture, 4, output_length);
+    let lengths_valid = plane_fits(picture, 1, 1, luma.len())
+        & plane_fits(picture, 4, 4, output_length);
     let layout = layout_fault(
         picture,
         virtual_columns,
@@ -147,7 +147,7 @@ pub fn judge_luma(
         (now («fixed_filters» .entry)) (now («fixed_map» .entry)) (now (luma .entry)) «output_length») ⌝ }
 {
     let lengths_valid = ((fixed_filters.len() == 64 * 12) & (fixed_map.len() == 16 * 25))
-        & (plane_fits(picture, 1, luma.len()) & plane_fits(picture, 1, output_length));
+        & (plane_fits(picture, 1, 1, luma.len()) & plane_fits(picture, 1, 1, output_length));
     judge_filter(
         picture,
         virtual_columns,
@@ -194,8 +194,7 @@ pub fn judge_chroma(
         (now («slice_params» .entry)) (now (bank .entry)) (now («ctb_params» .entry)) (now («ctb_list» .entry))
         (now (chroma .entry)) «output_length») ⌝ }
 {
-    let lengths_valid = plane_fits(picture, 2, chroma.len())
-        & plane_fits(picture, 2, output_length);
+    let lengths_valid = chroma_fits(picture, chroma.len()) & chroma_fits(picture, output_length);
     judge_filter(
         picture,
         virtual_columns,
@@ -243,8 +242,8 @@ pub fn judge_cross_component(
         (now («slice_params» .entry)) (now (bank .entry)) (now («ctb_params» .entry)) (now («ctb_list» .entry))
         (now (luma .entry)) (now (chroma .entry)) «output_length») ⌝ }
 {
-    let lengths_valid = plane_fits(picture, 1, luma.len())
-        & (plane_fits(picture, 2, chroma.len()) & plane_fits(picture, 2, output_length));
+    let lengths_valid = plane_fits(picture, 1, 1, luma.len())
+        & (chroma_fits(picture, chroma.len()) & chroma_fits(picture, output_length));
     judge_filter(
         picture,
         virtual_columns,

@@ -5,17 +5,27 @@ ghost use mathlib.Core.List.{[]};
 ghost use Prim.Native.Nat.{_*_, _/_, _<_};
 ghost use lib.Dec.{eqb};
 ghost use lib.ListN.{length};
-ghost use Rattle.alf_spec.specs.Geometry.{ctbTotal};
+ghost use Rattle.alf_spec.specs.Input.{Layout};
+ghost use Rattle.alf_spec.specs.Geometry.{ctbTotal, chromaPlane, planeLength};
 ghost use Rattle.alf_spec.specs.Faults.{filterLengthsValid};
 ghost use Rattle.alf_validate.specs.Tables.{mapLayout, tablesInput};
+use alf_math::grid::sub_height;
+use alf_math::grid::sub_width;
 use alf_spec::Picture;
 
-// Whether a plane of the picture, with so many luma samples to one of its own in each direction, has this length.
-pub fn plane_fits(picture: Picture, ratio: u32, length: usize) -> bool
-    requires { ⌜ 0 < ratio ⌝ }
-    ensures { λ r. ⌜ r ≡ eqb length (picture .width / ratio * (picture .height / ratio)) ⌝ }
+// Whether a plane of the picture, with so many luma samples to one of its own in a row and in a column, has this length.
+pub fn plane_fits(picture: Picture, columns: u32, rows: u32, length: usize) -> bool
+    requires { ⌜ (0 < columns) × (0 < rows) ⌝ }
+    ensures { λ r. ⌜ r ≡ eqb length (picture .width / columns * (picture .height / rows)) ⌝ }
 {
-    length as u64 == ((picture.width / ratio) as u64) * ((picture.height / ratio) as u64)
+    length as u64 == ((picture.width / columns) as u64) * ((picture.height / rows) as u64)
+}
+
+// Whether a chroma plane has this length.
+pub fn chroma_fits(picture: Picture, length: usize) -> bool
+    ensures { λ r. ⌜ ((l : Layout) → l .picture ≡ picture → r ≡ eqb length (planeLength (chromaPlane l))) ⌝ }
+{
+    plane_fits(picture, sub_width(picture), sub_height(picture), length)
 }
 
 // Whether there are eight numbers for each CTB.

@@ -75,8 +75,11 @@ fn ctb_params_valid_at(
     ensures { λ r. ⌜ r ≡ ctbParamsValidAt (parametersInput picture (now («slice_map» .entry)) (now («slice_params» .entry))
         (now («ctb_params» .entry))) k ⌝ }
 {
-    ranges_valid(picture, slice_map, slice_params, ctb_params, k)
-        & (!(picture.chroma_format == 0) | chroma_zero(picture, ctb_params, k))
+    let ranges = ranges_valid(picture, slice_map, slice_params, ctb_params, k);
+    if picture.chroma_format == 0 {
+        return ranges & chroma_zero(picture, ctb_params, k);
+    }
+    ranges
 }
 
 // Whether those of every CTB are.

@@ -10,7 +10,7 @@ use alf_spec::Picture;
 pub fn region_length_valid(picture: Picture, region: &[u8]) -> bool
     ensures { λ r. ⌜ ((l : Layout) → l .picture ≡ picture → r ≡ regionLengthValid l (now (region .entry))) ⌝ }
 {
-    plane_fits(picture, 8, region.len())
+    plane_fits(picture, 8, 8, region.len())
 }
 
 // Cause 14: whether each entry of a region is 0 or 1.

@@ -1,10 +1,11 @@
 // Causes 12 and 13: samples, and the addresses of the CTB list.
 ghost use mathlib.Core.Path.{_≡_};
 ghost use mathlib.Core.Bool.{true, _&&_};
+ghost use mathlib.Core.List.{[]};
 ghost use Prim.Native.Nat.{_≤_};
-ghost use lib.Dec.{ltb};
-ghost use Rattle.alf_spec.specs.Lists.{every};
-ghost use Rattle.alf_spec.specs.Faults.{bitDepthValid, samplesValid};
+ghost use Rattle.alf_spec.specs.Input.{Layout, inputOf};
+ghost use Rattle.alf_spec.specs.Geometry.{ctbTotal};
+ghost use Rattle.alf_spec.specs.Faults.{bitDepthValid, samplesValid, addressesValid};
 use crate::entries::addresses_below;
 use crate::entries::samples_below;
 use alf_spec::Picture;
@@ -28,7 +29,8 @@ pub fn planes_valid(picture: Picture, luma: &[u16], chroma: &[u16]) -> bool
 // Whether each address of the list is below the number of CTBs.
 pub fn addresses_valid(ctb_total: usize, ctb_list: &[u32]) -> bool
     requires { ⌜ «ctb_total» ≤ 16384 ⌝ }
-    ensures { λ r. ⌜ r ≡ every (λ n. ltb n «ctb_total») (now («ctb_list» .entry)) ⌝ }
+    ensures { λ r. ⌜ ((l : Layout) → ctbTotal l ≡ «ctb_total»
+        → r ≡ addressesValid (inputOf l [] [] [] [] [] (now («ctb_list» .entry)) [] [] 0)) ⌝ }
 {
     addresses_below(ctb_list, ctb_total as u32)
 }

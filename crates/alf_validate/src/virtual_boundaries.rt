@@ -55,7 +55,10 @@ fn each_apart(ctb: u32, list: &[u16]) -> bool
 fn virtual_list_valid(size: u32, ctb: u32, list: &[u16]) -> bool
     ensures { λ r. ⌜ r ≡ virtualListValid size ctb (now (list .entry)) ⌝ }
 {
-    (list.len() <= 3) & (each_position_valid(size, list) & each_apart(ctb, list))
+    if 3 < list.len() {
+        return false;
+    }
+    each_position_valid(size, list) & each_apart(ctb, list)
 }
 
 // Cause 6: virtual columns and rows.

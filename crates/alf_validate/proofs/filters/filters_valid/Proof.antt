@@ -1,10 +1,12 @@
--- `alf_validate::filters::filters_valid` meets its contract. Assumes nothing.
+-- `alf_validate::filters::filters_valid` meets its contract: a call for each of the two tests. Assumes nothing.
 use borrow.Author.Needs.{needs}
+use Rattle.alf_spec.specs.Faults.{bankValid, fixedValid}
 use Rattle.alf_validate.proofs.BitDepth.{depth-high}
 use Rattle.alf_validate.proofs.filters.filters_valid.Statement.{statement}
 use Rattle.alf_validate.proofs.filters.filters_valid.Tie as tie
 
 pub filters-valid-spec : {M : Type 1} → statement M
+unfolding bankValid fixedValid
 filters-valid-spec =
     tie.close
     (tie.spec

@@ -11,10 +11,10 @@ plane-fits-spec =
     tie.close
     (tie.spec
     (λ c. search needs)
-    (λ c. let a = c .before .args in omega (arith, div-le-self (a .picture .width) (a .ratio)))
+    (λ c. let a = c .before .args in omega (arith, div-le-self (a .picture .width) (a .columns)))
     (λ c. search needs)
-    (λ c. let a = c .before .before .args in omega (arith, div-le-self (a .picture .height) (a .ratio)))
+    (λ c. let a = c .before .before .args in omega (arith, div-le-self (a .picture .height) (a .rows)))
     (λ c.
     let a = c .before .before .args in
-    record { fits = product-fits (a .picture .width) (a .picture .height) (a .ratio) (omega arith) (omega arith) })
+    record { fits = product-fits (a .picture .width) (a .picture .height) (a .columns) (a .rows) (omega arith) (omega arith) })
     (λ c. search needs))

@@ -1,5 +1,6 @@
--- `alf_validate::virtual_boundaries::virtual_list_valid` meets its contract: a call for each of the definition's tests. Assumes nothing.
+-- `alf_validate::virtual_boundaries::virtual_list_valid` meets its contract: a list of more than three is not read. Assumes nothing.
 use borrow.Author.Needs.{needs}
+use borrow.Author.Tests.{le-leb, lt-leb}
 use Rattle.alf_spec.specs.Faults.{virtualListValid}
 use Rattle.alf_validate.proofs.virtual_boundaries.virtual_list_valid.Statement.{statement}
 use Rattle.alf_validate.proofs.virtual_boundaries.virtual_list_valid.Tie as tie
@@ -9,6 +10,7 @@ unfolding virtualListValid
 virtual-list-valid-spec =
     tie.close
     (tie.spec
+    (λ c. rw (lt-leb _ 3 (c .if1 .taken)))
     (λ c κs. search needs)
     (λ c κs. search needs)
-    (λ c. cc))
+    (λ c. rw (le-leb _ 3 (c .before .before .if1 .left), c .before .each-position-valid .ensures, c .each-apart .ensures)))
