@@ -93,20 +93,21 @@ row-in {p} {ctb} {region} b list s y h e = rw e (record {
     below : not (stepOpen (p .height) ctb list (s .bottom) (8 * y + 8)) ≡ false → y + 2 ≤ p .height / 8
     below t = omega (arith, open-within (p .height) ctb list (s .bottom) (8 * y + 8) (not-false _ t), b .height8)
 
--- ---- the tests, as the code has them: `count` is the number of blocks along the axis
+-- ---- the tests, as the code has them
 
-module _ (p : Picture) (ctb : ℕ) (virtualColumns virtualRows region : List ℕ) (c : Ctb) (s : Sides) {count : ℕ} where
-  pub row-test : (y : ℕ) → count ≡ blocksAlong (p .width) ctb (c .column) → {own : Sides} → own ≡ rowSides (p .height) ctb virtualRows s y
-      → {r : Bool} → r ≡ allBelow count (λ i. blockTest (p .width) ctb virtualColumns region (y * (p .width / 8)) own (c .column * (ctb / 8) + i))
-      → r ≡ rowTest p ctb virtualColumns virtualRows region c s y
+module _ (p : Picture) (ctb : ℕ) (virtualColumns virtualRows region : List ℕ) (s : Sides) where
+  pub row-test : (first count y : ℕ) {own : Sides} → own ≡ rowSides (p .height) ctb virtualRows s y
+      → {r : Bool} → r ≡ allBelow count (λ i. blockTest (p .width) ctb virtualColumns region (y * (p .width / 8)) own (first + i))
+      → r ≡ rowTest p ctb virtualColumns virtualRows region s first count y
   unfolding rowTest
-  row-test y blocks sides e = rw (← blocks, ← sides) e
+  row-test first count y sides e = rw (← sides) e
 
-  pub ctb-test : count ≡ blocksAlong (p .height) ctb (c .row) → {r : Bool}
-      → r ≡ allBelow count (λ j. rowTest p ctb virtualColumns virtualRows region c s (c .row * (ctb / 8) + j))
+  pub ctb-test : (c : Ctb) {columns rows : ℕ} → columns ≡ blocksAlong (p .width) ctb (c .column) → rows ≡ blocksAlong (p .height) ctb (c .row)
+      → {r : Bool}
+      → r ≡ allBelow rows (λ j. rowTest p ctb virtualColumns virtualRows region s (c .column * (ctb / 8)) columns (c .row * (ctb / 8) + j))
       → r ≡ ctbTest p ctb virtualColumns virtualRows region c s
   unfolding ctbTest
-  ctb-test blocks e = rw (← blocks) e
+  ctb-test c wide high e = rw (← wide, ← high) e
 
 -- ---- the blocks of a CTB along an axis
 

@@ -12,15 +12,13 @@ use Rattle.alf_spec.specs.Input.{Layout}
 use Rattle.alf_spec.specs.Geometry.{Side, before, after, next, hasNext, ctbColumns, ctbRows}
 use Rattle.alf_spec.specs.Boundary.{sliceOf, subpicOf, tileColumnOf, tileRowOf, tileDisables, sliceDisables, subpicDisables, disables}
 use Rattle.alf_spec.specs.Boundary.{besideCtb, stackedCtb, diagonalCtb, columnDisabled, rowDisabled, cornerDisabled}
+use Rattle.alf_spec.proofs.Tests.{and-same}
 use Rattle.alf_math.specs.Grids.{GridOf}
 use Rattle.alf_math.proofs.Grids.{grid-columns, grid-rows}
 use Rattle.alf_boundary.specs.declared.sides.Membership.{Membership}
 use Rattle.alf_boundary.specs.declared.sides.Origin.{Origin}
 use Rattle.alf_boundary.specs.declared.sides.Neighbour.{Neighbour}
 use Rattle.alf_boundary.specs.Memberships.{membershipAt, stepDisabled, sliceStepDisabled}
-
-and-same : {a b a′ b′ : Bool} → a ≡ a′ → b ≡ b′ → (a && b) ≡ (a′ && b′)
-and-same p q = rw (p, q)
 
 -- ---- of n places in a row, x has one before it where it is not the first, and one after it where it is not the last
 

@@ -73,16 +73,18 @@ unfoldable pub blockTest : ℕ → ℕ → List ℕ → List ℕ → ℕ → Sid
 blockTest width ctb virtualColumns region from s x =
     implies (insideAt region (from + x)) (neighboursInside region (width / 8) (from + x) (blockSides width ctb virtualColumns s x))
 
-module _ (p : Picture) (ctb : ℕ) (virtualColumns virtualRows region : List ℕ) (c : Ctb) (s : Sides) where
-  -- row y of blocks in the CTB c with the sides s
-  unfoldable pub rowTest : ℕ → Bool
-  rowTest y =
-      allBelow (blocksAlong (p .width) ctb (c .column)) (λ i.
-      blockTest (p .width) ctb virtualColumns region (y * (p .width / 8)) (rowSides (p .height) ctb virtualRows s y) (c .column * (ctb / 8) + i))
+module _ (p : Picture) (ctb : ℕ) (virtualColumns virtualRows region : List ℕ) where
+  -- so many blocks from column `first` on, in row y of blocks of a CTB with the sides s
+  unfoldable pub rowTest : Sides → ℕ → ℕ → ℕ → Bool
+  rowTest s first count y =
+      allBelow count (λ i.
+      blockTest (p .width) ctb virtualColumns region (y * (p .width / 8)) (rowSides (p .height) ctb virtualRows s y) (first + i))
 
-  -- every row of blocks of the CTB
-  unfoldable pub ctbTest : Bool
-  ctbTest = allBelow (blocksAlong (p .height) ctb (c .row)) (λ j. rowTest (c .row * (ctb / 8) + j))
+  -- every row of blocks of the CTB c with the sides s
+  unfoldable pub ctbTest : Ctb → Sides → Bool
+  ctbTest c s =
+      allBelow (blocksAlong (p .height) ctb (c .row)) (λ j.
+      rowTest s (c .column * (ctb / 8)) (blocksAlong (p .width) ctb (c .column)) (c .row * (ctb / 8) + j))
 
 -- the test in `Blocks` of the CTB at address k
 unfoldable pub addressPasses : Layout → List ℕ → ℕ → Bool

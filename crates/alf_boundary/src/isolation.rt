@@ -39,7 +39,7 @@ fn step_is_open(size: u32, ctb: u32, boundaries: &[u16], disabled: bool, b: u32)
     ((0 < b) & (b < size)) & (!is_listed(boundaries, b) & ((b % ctb != 0) | !disabled))
 }
 
-// The sides of a row of blocks, from those of its CTB.
+// The sides of a row of blocks, from those of its CTB: disabled also at virtual boundaries and at the picture's rim.
 fn row_sides(height: u32, ctb: u32, boundaries: &[u16], sides: Sides, y: u32) -> Sides
     requires { ⌜ (0 < ctb) × (y ≤ 512) ⌝ }
     ensures { λ s. ⌜ s ≡ rowSides height ctb (now (boundaries .entry)) sides y ⌝ }
@@ -56,7 +56,7 @@ fn row_sides(height: u32, ctb: u32, boundaries: &[u16], sides: Sides, y: u32) ->
     }
 }
 
-// The sides of a block, from those of its row.
+// The sides of a block, from those of its row, in the same way.
 fn block_sides(width: u32, ctb: u32, boundaries: &[u16], sides: Sides, x: u32) -> Sides
     requires { ⌜ (0 < ctb) × (x ≤ 512) ⌝ }
     ensures { λ s. ⌜ s ≡ blockSides width ctb (now (boundaries .entry)) sides x ⌝ }
@@ -73,7 +73,7 @@ fn block_sides(width: u32, ctb: u32, boundaries: &[u16], sides: Sides, x: u32) -
     }
 }
 
-// Whether the block `by` places before k is in the region; only a side that is not disabled leads there.
+// Whether a step over a side or a corner leads into the region, to the block `by` places before k; where it is disabled, there is no step.
 fn inside_before(disabled: bool, region: &[u8], k: usize, by: usize) -> bool
     requires { ⌜ (k < length (now region)) × (disabled ≡ false → by ≤ k) ⌝ }
     ensures { λ r. ⌜ r ≡ (disabled || insideAt (now (region .entry)) (k - by)) ⌝ }
@@ -170,25 +170,24 @@ fn blocks_along(size: u32, ctb: u32, q: u32) -> u32
     if whole < rest { whole } else { rest }
 }
 
-// Whether each block of the CTB in row y of blocks passes.
+// Whether each of so many blocks from column `first` on passes, in row y of blocks of a CTB with these sides.
 fn row_passes(
     picture: Picture,
     grid: Grid,
     virtual_columns: &[u16],
     virtual_rows: &[u16],
     region: &[u8],
-    ctb: Ctb,
     sides: Sides,
+    first: u32,
+    count: u32,
     y: u32,
 ) -> bool
-    requires { ⌜ (BlocksOf picture (grid .ctb) (now region)) × (ctb .column * grid .ctb < picture .width) × (y < picture .height / 8) ⌝ }
+    requires { ⌜ (BlocksOf picture (grid .ctb) (now region)) × (first + count ≤ picture .width / 8) × (y < picture .height / 8) ⌝ }
     ensures { λ r. ⌜ r ≡ rowTest picture (grid .ctb) (now («virtual_columns» .entry)) (now («virtual_rows» .entry)) (now (region .entry))
-        ctb sides y ⌝ }
+        sides first count y ⌝ }
 {
     let own = row_sides(picture.height, grid.ctb, virtual_rows, sides, y);
     let from = y * (picture.width / 8);
-    let first = ctb.column * (grid.ctb / 8);
-    let count = blocks_along(picture.width, grid.ctb, ctb.column);
     run_passes(
         picture.width,
         grid.ctb,
@@ -216,19 +215,23 @@ fn ctb_passes(
     ensures { λ r. ⌜ r ≡ ctbTest picture (grid .ctb) (now («virtual_columns» .entry)) (now («virtual_rows» .entry)) (now (region .entry))
         ctb sides ⌝ }
 {
-    let first = ctb.row * (grid.ctb / 8);
-    let count = blocks_along(picture.height, grid.ctb, ctb.row);
+    let whole = grid.ctb / 8;
+    let left = ctb.column * whole;
+    let top = ctb.row * whole;
+    let columns = blocks_along(picture.width, grid.ctb, ctb.column);
+    let rows = blocks_along(picture.height, grid.ctb, ctb.row);
     let mut j = 0;
-    while j < count {
+    while j < rows {
         if !row_passes(
             picture,
             grid,
             virtual_columns,
             virtual_rows,
             region,
-            ctb,
             sides,
-            first + j,
+            left,
+            columns,
+            top + j,
         ) {
             return false;
         }

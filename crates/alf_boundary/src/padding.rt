@@ -201,7 +201,7 @@ pub fn padded_row(samples: u32, span: Span, q: u32) -> u32
 
 // The first and the last sample of the CTB at column, or row, q of the grid.
 pub fn ctb_ends(ctb: u32, ratio: u32, q: u32) -> Ends
-    requires { ⌜ (4 ≤ ctb) × (ctb ≤ 128) × (0 < ratio) × (q ≤ 128) ⌝ }
+    requires { ⌜ (ctb ≤ 128) × (0 < ratio) × (q ≤ 128) ⌝ }
     ensures { λ r. ⌜ ((a : Axis) (x : ℕ) → a .ctb ≡ ctb → a .ratio ≡ ratio → lumaPosition a x / a .ctb ≡ q → EndsOf a x r) ⌝ }
 {
     let first = q * ctb / ratio;

@@ -15,7 +15,7 @@ use alf_spec::Picture;
 use alf_spec::Sides;
 
 // The tile, the slice and the subpicture of a CTB, and that subpicture's switch.
-pub struct Membership {
+struct Membership {
     pub tile_column: u8,
     pub tile_row: u8,
     pub slice: u8,
@@ -25,7 +25,7 @@ pub struct Membership {
 
 // What decides at each side of a CTB: its membership, and the picture's switches for tiles and slices. With them the number of CTBs in a
 // row, by which a neighbour's address is known.
-pub struct Origin {
+struct Origin {
     pub own: Membership,
     pub across_tiles: bool,
     pub across_slices: bool,
@@ -33,7 +33,7 @@ pub struct Origin {
 }
 
 // A CTB next to another, where there is one.
-pub struct Neighbour {
+struct Neighbour {
     pub there: bool,
     pub ctb: Ctb,
 }

@@ -16,9 +16,9 @@ use Rattle.alf_spec.specs.Faults.{sizeValid, pictureSizeValid, ctbSizeValid}
 use Rattle.alf_spec.proofs.Tests.{both}
 use Rattle.alf_math.specs.Grids.{ctbsAlong, GridOf}
 
--- 1 << CtbLog2SizeY
-pub shifted : (n : ℕ) → n ≤ 7 → (1 * 2 ^ n) % (2 ^ 32) ≡ 2 ^ n
-shifted n h = rw one-mul (mod-eq-of-lt (pow-lt {j = 32} (omega arith)))
+-- 1 << n in so many bits
+pub shifted : (n bits : ℕ) → n < bits → (1 * 2 ^ n) % (2 ^ bits) ≡ 2 ^ n
+shifted n bits h = rw one-mul (mod-eq-of-lt (pow-lt h))
 
 -- the CTBs along 8 to 4,096 samples
 pub along-bounds : (s n : ℕ) → (32 ≤ s) × (s ≤ 128) → (8 ≤ n) × (n ≤ 4096) → (0 < (n + (s - 1)) / s) × ((n + (s - 1)) / s ≤ 128)

@@ -8,9 +8,9 @@ use lib.Dec.{eqb, leb}
 use lib.ListN.{length}
 use borrow.Author.Tests.{leb-true, eqb-true}
 use Rattle.alf_spec.specs.declared.Picture.{Picture}
-use Rattle.alf_spec.specs.Lists.{implies}
+use Rattle.alf_spec.specs.Lists.{within, implies}
 use Rattle.alf_spec.specs.Input.{Layout, Operation, given, Input}
-use Rattle.alf_spec.specs.Geometry.{lumaPlane, chromaPlane, blockPlane, planeLength}
+use Rattle.alf_spec.specs.Geometry.{lumaPlane, chromaPlane, blockPlane, planeLength, ctbColumns, ctbRows, ctbTotal}
 use Rattle.alf_spec.specs.Faults.{pictureSizeValid, ctbSizeValid, bitDepthValid, chromaFormatValid, componentValid, layoutLengthsValid, filterLengthsValid, fixedLengthsValid, lengthsValid, regionLengthValid, virtualBoundariesValid, tilesValid, slicesValid, subpicturesValid, regionValid, unless, layoutFault, tablesFault, fault, isolationFault}
 use Rattle.alf_spec.proofs.Tests.{both, implied}
 
@@ -30,6 +30,30 @@ pub record Accepted (l : Layout) : Type 0 where
   pub tiles : tilesValid l ≡ true
   pub slices : slicesValid l ≡ true
   pub subpictures : subpicturesValid l ≡ true
+
+-- the lengths that cause 5 asks of the layout's tables
+pub record TableLengths (l : Layout) : Type 0 where
+  pub tileColumns : length (l .tileColumns) ≡ ctbColumns l
+  pub tileRows : length (l .tileRows) ≡ ctbRows l
+  pub sliceMap : length (l .sliceMap) ≡ ctbTotal l
+  pub subpicMap : length (l .subpicMap) ≡ ctbTotal l
+  pub subpicAcross : length (l .subpicAcross) ≡ 64
+
+pub table-lengths : (l : Layout) → layoutLengthsValid l ≡ true → TableLengths l
+unfolding layoutLengthsValid
+table-lengths l e =
+    let afterCount = both (within 1 256 (l .picture .«slice_count»)) _ e .1 in
+    let columns = both (eqb (length (l .tileColumns)) (ctbColumns l)) _ afterCount in
+    let rows = both (eqb (length (l .tileRows)) (ctbRows l)) _ (columns .1) in
+    let slices = both (eqb (length (l .sliceMap)) (ctbTotal l)) _ (rows .1) in
+    let subpics = both (eqb (length (l .subpicMap)) (ctbTotal l)) _ (slices .1) in
+    record {
+      tileColumns = eqb-true _ _ (columns .0);
+      tileRows = eqb-true _ _ (rows .0);
+      sliceMap = eqb-true _ _ (slices .0);
+      subpicMap = eqb-true _ _ (subpics .0);
+      subpicAcross = eqb-true (length (l .subpicAcross)) 64 (subpics .1);
+    }
 
 -- what the operation's own tests of 4 and 5 say, too
 pub chain : (l : Layout) (component lengths : Bool) (rest : ℕ) → layoutFault l component lengths rest ≡ 0 → Accepted l × (component ≡ true) × (lengths ≡ true)

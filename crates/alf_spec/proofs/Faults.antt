@@ -1,6 +1,6 @@
 -- How a judge finds the lowest fault: it leaves at the first test that fails, and goes on after the layout's tests. Assumes nothing.
 use mathlib.Core.Path.{_≡_, refl, sym, _∙_, ap}
-use mathlib.Core.Bool.{Bool, true, false, not, _&&_}
+use mathlib.Core.Bool.{Bool, true, false, not}
 use Prim.Native.Nat.{ℕ, suc, pred}
 use native.Mathlib.Omega.{arith}
 use borrow.Author.Tests.{not-true, not-false}
@@ -25,10 +25,6 @@ goes {r = r} n rest e q t = rw (← e, not-false r q) t
 -- the test passed
 pub took : {test r : Bool} → r ≡ test → not r ≡ false → test ≡ true
 took {r = r} e q = sym e ∙ not-false r q
-
--- a test of two parts: the code has the answer a of the first
-pub and-same : {a b : Bool} (v : Bool) → a ≡ b → (a && v) ≡ (b && v)
-and-same v e = rw e
 
 -- ---- the layout's tests, and what comes after them
 

@@ -16,6 +16,10 @@ pub both : (a b : Bool) → (a && b) ≡ true → (a ≡ true) × (b ≡ true)
 both true b e = (refl, e)
 both false b e = absurd (false≢true e)
 
+-- two conjunctions whose parts are the same
+pub and-same : {a b c d : Bool} → a ≡ c → b ≡ d → (a && b) ≡ (c && d)
+and-same p q = rw (p, q)
+
 -- a conjunction that fails, though its first part holds
 pub and-no : (a b : Bool) → (a && b) ≡ false → a ≡ true → b ≡ false
 and-no true b e h = e

@@ -16,9 +16,9 @@ use Rattle.alf_spec.proofs.Tests.{every-at}
 use Rattle.alf_validate.specs.Tables.{ParametersFit}
 
 -- the first of a slice's parameters stands in the table
-pub slice-row : (p : Picture) (sliceMap sliceParams ctbParams : List ℕ) → ParametersFit p sliceMap sliceParams ctbParams
+pub slice-params : (p : Picture) (sliceMap sliceParams ctbParams : List ℕ) → ParametersFit p sliceMap sliceParams ctbParams
     → (k : ℕ) → k < length sliceMap → 11 * getD sliceMap k 0 < length sliceParams
-slice-row p sliceMap sliceParams ctbParams fit k h =
+slice-params p sliceMap sliceParams ctbParams fit k h =
     let e = every-at 0 0 (λ _ n. ltb n (p .«slice_count»)) sliceMap (fit .slices) k h in
     let l = ltb-true (getD sliceMap k 0) (p .«slice_count») e in
     omega (arith, fit .sliceLength)

@@ -1,12 +1,12 @@
 -- What causes 10 to 13 look at, which of them an operation judges, and a filter's fault from its own tests. Assumes nothing.
-use mathlib.Core.Path.{_≡_, refl, sym, _∙_, ap}
+use mathlib.Core.Path.{_≡_, refl, sym, _∙_}
 use mathlib.Core.Bool.{Bool, true, false, not, _&&_, and-true}
 use mathlib.Core.List.{List, []}
 use Prim.Native.Nat.{ℕ}
-use lib.Dec.{eqb, ltb}
+use lib.Dec.{eqb}
 use lib.IntN.{ℤ}
 use lib.ListN.{length}
-use Rattle.alf_spec.specs.Lists.{everyFrom, every}
+use Rattle.alf_spec.specs.Lists.{everyFrom}
 use Rattle.alf_spec.specs.Input.{Layout, classes, luma, chroma, crossComponent, Input, inputOf, classesInput, lumaInput, chromaInput, crossInput}
 use Rattle.alf_spec.specs.Geometry.{planeOf, lumaPlane, chromaPlane, planeLength, ctbTotal}
 use Rattle.alf_spec.specs.Boundary.{sliceOf}

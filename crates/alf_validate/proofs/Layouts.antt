@@ -4,17 +4,17 @@ use mathlib.Core.Bool.{Bool, false, not, _&&_}
 use mathlib.Core.List.{List, []}
 use Prim.Native.Nat.{ℕ, _-_, _*_, _<_}
 use native.Mathlib.Omega.{arith}
-use borrow.Author.Tests.{not-false, eqb-true}
+use borrow.Author.Tests.{not-false}
 use lib.ListN.{length}
 use lib.Dec.{eqb, ltb}
 use Rattle.alf_spec.specs.declared.Picture.{Picture}
 use Rattle.alf_spec.specs.declared.Grid.{Grid}
 use Rattle.alf_spec.specs.Lists.{within, allBelow, every}
 use Rattle.alf_spec.specs.Input.{Layout, layoutOf}
-use Rattle.alf_spec.specs.Geometry.{ctbColumns, ctbRows, ctbTotal}
 use Rattle.alf_spec.specs.Faults.{layoutLengthsValid, virtualListValid, virtualBoundariesValid, sliceCorner, subpicCorner, cornersInRow, cornersValid, slicesValid, subpicturesValid}
 use Rattle.alf_spec.proofs.Scans.{every-up-to}
 use Rattle.alf_spec.proofs.Tests.{both}
+use Rattle.alf_spec.proofs.Accepted.{table-lengths}
 use Rattle.alf_math.specs.Grids.{GridOf}
 use Rattle.alf_math.proofs.Grids.{few-ctbs, grid-columns, grid-rows, grid-total}
 
@@ -66,14 +66,8 @@ pub map-lengths : {p : Picture} {g : Grid} → GridOf p g → (columns rows slic
     → ((l : Layout) → l .picture ≡ p → l .tileColumns ≡ columns → l .tileRows ≡ rows → l .sliceMap ≡ slices → l .subpicMap ≡ subpics
     → l .subpicAcross ≡ across → a ≡ layoutLengthsValid l)
     → not (a && v) ≡ false → (GridOf p g) × (length slices ≡ g .columns * g .rows) × (length subpics ≡ g .columns * g .rows)
-unfolding layoutLengthsValid
 map-lengths {p} {g} h columns rows slices subpics across a v answer q =
     let l = layoutOf p [] [] columns rows slices subpics across in
-    let tests = sym (answer l refl refl refl refl refl refl) ∙ both a v (not-false (a && v) q) .0 in
-    let afterCount = both (within 1 256 (p .«slice_count»)) _ tests .1 in
-    let afterColumns = both (eqb (length columns) (ctbColumns l)) _ afterCount .1 in
-    let afterRows = both (eqb (length rows) (ctbRows l)) _ afterColumns .1 in
-    let sliceMap = both (eqb (length slices) (ctbTotal l)) _ afterRows in
-    let subpicMap = both (eqb (length subpics) (ctbTotal l)) _ (sliceMap .1) in
+    let lengths = table-lengths l (sym (answer l refl refl refl refl refl refl) ∙ both a v (not-false (a && v) q) .0) in
     let total = sym (grid-total l g h) in
-    (h, eqb-true (length slices) _ (sliceMap .0) ∙ total, eqb-true (length subpics) _ (subpicMap .0) ∙ total)
+    (h, lengths .sliceMap ∙ total, lengths .subpicMap ∙ total)

@@ -16,12 +16,11 @@ use Rattle.alf_spec.specs.Input.{Layout, Input, inputOf}
 use Rattle.alf_spec.specs.Geometry.{planeOf, ctbTotal}
 use Rattle.alf_spec.specs.Answers.{number}
 use Rattle.alf_spec.specs.Faults.{bitDepthValid, layoutLengthsValid, filterLengthsValid, cornersValid, sliceCorner, slicesValid, layoutFault}
-use Rattle.alf_spec.proofs.Tests.{both}
-use Rattle.alf_spec.proofs.Accepted.{Accepted, chain}
-use Rattle.alf_spec.proofs.Faults.{and-same, layout-leaves, layout-goes}
+use Rattle.alf_spec.proofs.Tests.{and-same, both}
+use Rattle.alf_spec.proofs.Accepted.{Accepted, table-lengths, chain}
+use Rattle.alf_spec.proofs.Faults.{layout-leaves, layout-goes}
 use Rattle.alf_math.proofs.Grids.{few-in-layout}
 use Rattle.alf_validate.specs.Tables.{mapLayout, tablesInput, filterTablesFault, TablesFit, filterFault}
-use Rattle.alf_validate.proofs.TableLengths.{full-map}
 use Rattle.alf_validate.proofs.FilterTables.{tablesOf, tables-of}
 
 -- a test that counts only where the one before it passes
@@ -35,7 +34,7 @@ tables-fit : (i : Input) → Accepted (i .layout) → filterLengthsValid i ≡ t
 unfolding filterLengthsValid slicesValid planeOf
 tables-fit i ok lengths =
     let l = i .layout in
-    let full = full-map l (ok .lengths) in
+    let full = table-lengths l (ok .lengths) .sliceMap in
     let slices = both (eqb (length (i .sliceParams)) (11 * l .picture .«slice_count»)) _ lengths in
     let ctbs = both (eqb (length (i .bank)) (8 * 752)) (eqb (length (i .ctbParams)) (8 * ctbTotal l)) (slices .1) in
     let params = eqb-true (length (i .ctbParams)) (8 * ctbTotal l) (ctbs .1) in
@@ -68,7 +67,7 @@ module _ (l : Layout) (component own r : Bool) (sliceParams : List ℕ) (bank : 
   unfolding filterLengthsValid planeOf
   filter-fits told =
       let p = passed l component (r && own) a judged told in
-      tables-fit (inputOf l [] [] sliceParams bank ctbParams [] [] [] 0) (p .0) (sym (fit (full-map l (p .0 .lengths))) ∙ both r own (p .2) .0)
+      tables-fit (inputOf l [] [] sliceParams bank ctbParams [] [] [] 0) (p .0) (sym (fit (table-lengths l (p .0 .lengths) .sliceMap)) ∙ both r own (p .2) .0)
 
   module _ (lumaSamples chromaSamples ctbList : List ℕ) (fixedFilters : List ℤ) (fixedMap : List ℕ) (n : ℕ) where
     abbrev i : Input
@@ -78,7 +77,7 @@ module _ (l : Layout) (component own r : Bool) (sliceParams : List ℕ) (bank : 
     layout-same : layoutFault l component (r && own) 0 ≡ layoutFault l component (filterLengthsValid i && own) 0
     unfolding layoutFault filterLengthsValid planeOf
     layout-same =
-        rw (beside (layoutLengthsValid l) (r && own) (filterLengthsValid i && own) (λ e. and-same own (fit (full-map l e))))
+        rw (beside (layoutLengthsValid l) (r && own) (filterLengthsValid i && own) (λ e. and-same (fit (table-lengths l e .sliceMap)) refl))
 
     pub filter-rejects : {f : Fault} → a ≡ answer.Rejected f → number a ≡ filterFault i component own
     unfolding filterFault

@@ -8,10 +8,9 @@ use native.Mathlib.Omega.{arith}
 use borrow.Author.Tests.{eqb-true, eq-eqb}
 use lib.Dec.{eqb}
 use lib.ListN.{length}
-use Rattle.alf_spec.specs.Lists.{within}
 use Rattle.alf_spec.specs.Input.{Layout, classes, classesInput}
-use Rattle.alf_spec.specs.Geometry.{lumaPlane, classPlane, planeLength, ctbColumns, ctbRows, ctbTotal}
-use Rattle.alf_spec.specs.Faults.{layoutLengthsValid, lengthsValid, layoutFault}
+use Rattle.alf_spec.specs.Geometry.{lumaPlane, classPlane, planeLength}
+use Rattle.alf_spec.specs.Faults.{lengthsValid, layoutFault}
 use Rattle.alf_spec.proofs.Tests.{both, same-test}
 
 -- the samples of a plane fit 64 bits
@@ -31,15 +30,6 @@ eight-each m n =
     let r = eqb-true (n % 8) 0 (h .1) in
     eq-eqb n (8 * m) (omega arith))
     (λ e. let q = eqb-true n (8 * m) e in simp (eq-eqb (n / 8) m (omega arith), eq-eqb (n % 8) 0 (omega arith)))
-
--- where the layout's lengths are right, the slice map has an entry for each CTB
-pub full-map : (l : Layout) → layoutLengthsValid l ≡ true → length (l .sliceMap) ≡ ctbTotal l
-unfolding layoutLengthsValid
-full-map l e =
-    let afterCount = both (within 1 256 (l .picture .«slice_count»)) _ e .1 in
-    let afterColumns = both (eqb (length (l .tileColumns)) (ctbColumns l)) _ afterCount .1 in
-    let afterRows = both (eqb (length (l .tileRows)) (ctbRows l)) _ afterColumns .1 in
-    eqb-true (length (l .sliceMap)) _ (both (eqb (length (l .sliceMap)) (ctbTotal l)) _ afterRows .0)
 
 -- the class map's lengths: the code has the answers a to that of the plane, and b to that of the output
 pub classes-lengths : (l : Layout) (plane : List ℕ) (n : ℕ) {a b : Bool}

@@ -1,4 +1,5 @@
-// The lowest fault of the input of each operation that has an output. An operation judges the layout first, with its own component and lengths beside causes 4 and 5.
+// The lowest fault of the input of each operation that has an output. An operation judges the layout first, with its own component and
+// lengths beside causes 4 and 5.
 ghost use mathlib.Core.Path.{_≡_};
 ghost use Prim.Native.Nat.{ℕ};
 ghost use Rattle.alf_spec.specs.Input.{layoutOf, classes, luma as ofLuma, chroma as ofChroma, crossComponent, inputOf, classesInput, lumaInput, chromaInput, crossInput};

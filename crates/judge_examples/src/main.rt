@@ -9,77 +9,6 @@ use alf_spec::Isolation;
 use alf_spec::Picture;
 use libc::STDOUT_FILENO;
 
-// The blocks of the left and of the right half of a picture of 64 by 32 samples.
-const LEFT: [u8; 32] = [
-    1,
-    1,
-    1,
-    1,
-    0,
-    0,
-    0,
-    0,
-    1,
-    1,
-    1,
-    1,
-    0,
-    0,
-    0,
-    0,
-    1,
-    1,
-    1,
-    1,
-    0,
-    0,
-    0,
-    0,
-    1,
-    1,
-    1,
-    1,
-    0,
-    0,
-    0,
-    0,
-];
-
-const RIGHT: [u8; 32] = [
-    0,
-    0,
-    0,
-    0,
-    1,
-    1,
-    1,
-    1,
-    0,
-    0,
-    0,
-    0,
-    1,
-    1,
-    1,
-    1,
-    0,
-    0,
-    0,
-    0,
-    1,
-    1,
-    1,
-    1,
-    0,
-    0,
-    0,
-    0,
-    1,
-    1,
-    1,
-    1,
-];
-
 pub fn print(text: &[u8]) {
     io::write_all(STDOUT_FILENO, text);
 }
@@ -139,7 +68,7 @@ fn show_width(width: u32, numbers: &[u8], region: &[u8]) {
     ));
 }
 
-// Two subpictures side by side in one tile and slice, no virtual boundary, left switch off, right on.
+// Two subpictures side by side in one tile and slice, no virtual boundary, left switch off, right on. A region is four rows of eight blocks.
 fn show_half(region: &[u8]) {
     let virtual_columns: [u16; 0] = [];
     let virtual_rows: [u16; 0] = [];
@@ -174,11 +103,13 @@ fn main() {
     show_width(12, &ctb, &block);
     show_width(4104, &ctbs, &blocks);
     print(b"two subpictures side by side, left switch off, right on\n  left: ");
-    let left = LEFT;
-    show_half(&left);
+    show_half(
+        b"\x01\x01\x01\x01\x00\x00\x00\x00\x01\x01\x01\x01\x00\x00\x00\x00\x01\x01\x01\x01\x00\x00\x00\x00\x01\x01\x01\x01\x00\x00\x00\x00",
+    );
     print(b"  right: ");
-    let right = RIGHT;
-    show_half(&right);
+    show_half(
+        b"\x00\x00\x00\x00\x01\x01\x01\x01\x00\x00\x00\x00\x01\x01\x01\x01\x00\x00\x00\x00\x01\x01\x01\x01\x00\x00\x00\x00\x01\x01\x01\x01",
+    );
     print(
         b"the number answered where this cause alone is broken, and where all from it to 13 are\n",
     );

@@ -9,12 +9,12 @@ use Rattle.alf_boundary.proofs.isolation.ctb_passes.Statement.{statemen
 use Rattle.alf_boundary.proofs.isolation.ctb_passes.Tie as tie
 
 abbrev Inv-loop : tie.InvT-loop
-Inv-loop picture grid virtual-columns virtual-rows region ctb sides first count j₀ j =
-    Passed count (λ k. rowTest picture (grid .ctb) virtual-columns virtual-rows region ctb sides (first + k)) j
-    × (first + count ≤ picture .height / 8)
+Inv-loop picture grid virtual-columns virtual-rows region sides whole left top columns rows j₀ j =
+    Passed rows (λ k. rowTest picture (grid .ctb) virtual-columns virtual-rows region sides left columns (top + k)) j
+    × (left + columns ≤ picture .width / 8) × (top + rows ≤ picture .height / 8)
 
 abbrev μ-loop : tie.MeasureT-loop
-μ-loop picture grid virtual-columns virtual-rows region ctb sides first count j₀ j = count - j
+μ-loop picture grid virtual-columns virtual-rows region sides whole left top columns rows j₀ j = rows - j
 
 pub ctb-passes-spec : {M : Type 1} → statement M
 ctb-passes-spec =
@@ -24,13 +24,17 @@ ctb-passes-spec =
     μ-loop
     (λ c.
     let s = c .before .before .before .before .before in
+    omega (arith, first-block (s .args .picture .width) (s .args .grid .ctb) (s .args .ctb .column) (s .pre .0 .ctb8) (s .pre .1)))
+    (λ c.
+    let s = c .before .before .before .before .before .before in
     omega (arith, first-block (s .args .picture .height) (s .args .grid .ctb) (s .args .ctb .row) (s .pre .0 .ctb8) (s .pre .2)))
     (λ c κs. search needs)
-    (λ c. (search scans, search blocks-within))
+    (λ c κs. search needs)
+    (λ c. (search scans, search blocks-within, search blocks-within))
     (λ c. search needs)
     (λ c κs. search needs)
     (λ c. search (ctb-test, scan-stop))
     (λ c. search needs)
     (λ c. search needs)
-    (λ c. (search scans, search needs))
+    (λ c. (search scans, search needs, search needs))
     (λ c. search (ctb-test, scan-done)))

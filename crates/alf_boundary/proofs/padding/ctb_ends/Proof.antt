@@ -8,7 +8,7 @@ use Rattle.alf_boundary.proofs.padding.ctb_ends.Tie as tie
 
 -- where the CTB begins is small
 start-fits : (s : tie.Start) → s .args .q * s .args .ctb ≤ 128 * 128
-start-fits s = mul-le-mul (s .pre .3) (s .pre .1)
+start-fits s = mul-le-mul (s .pre .2) (s .pre .0)
 
 pub ctb-ends-spec : {M : Type 1} → statement M
 ctb-ends-spec =

@@ -1,4 +1,5 @@
 -- `alf_math::grid::ctb_size` meets its contract. Assumes nothing.
+use native.Mathlib.Omega.{arith}
 use borrow.Author.Needs.{needs}
 use Rattle.alf_math.proofs.grid.ctb_size.Statement.{statement}
 use Rattle.alf_math.proofs.grid.ctb_size.Tie as tie
@@ -9,4 +10,4 @@ ctb-size-spec =
     tie.close
     (tie.spec
     (λ c. search needs)
-    (λ c. shifted _ (c .pre .1)))
+    (λ c. shifted _ 32 (omega arith)))

@@ -8,12 +8,12 @@ use mir.Val.{toZ}
 use mir.Facts.{toZ-ofZ}
 use Rattle.alf_math.proofs.Magnitude.{back}
 use Rattle.alf_spec.specs.Faults.{clipValid}
-use Rattle.alf_validate.proofs.BitDepth.{shifted, shifted-small}
+use Rattle.alf_validate.proofs.BitDepth.{one-shifted, one-shifted-small}
 use Rattle.alf_validate.proofs.filters.clip_valid.Statement.{statement}
 use Rattle.alf_validate.proofs.filters.clip_valid.Tie as tie
 
 limit : (d : ℕ) → d ≤ 12 → toZ w16 ((1 * 2 ^ d) % (2 ^ 16)) ≡ pos (2 ^ d)
-limit d h = back w16 _ (shifted-small d h) ∙ rw (shifted d h)
+limit d h = back w16 _ (one-shifted-small d h) ∙ rw (one-shifted d h)
 
 pub clip-valid-spec : {M : Type 1} → statement M
 unfolding clipValid
@@ -21,5 +21,5 @@ clip-valid-spec =
     tie.close
     (tie.spec
     (λ c. search needs)
-    (λ c. record { sfits = shifted-small _ (c .pre) })
+    (λ c. record { sfits = one-shifted-small _ (c .pre) })
     (λ c. rw (toZ-ofZ (c .fits .clip), limit _ (c .pre))))

@@ -1,7 +1,8 @@
 -- `alf_validate::layout::layout_fault` meets its contract: it leaves at the first test that fails. Assumes nothing.
 use borrow.Author.Needs.{needs}
 use Rattle.alf_spec.specs.Faults.{layoutFault}
-use Rattle.alf_spec.proofs.Faults.{stops, goes, took, and-same}
+use Rattle.alf_spec.proofs.Tests.{and-same}
+use Rattle.alf_spec.proofs.Faults.{stops, goes, took}
 use Rattle.alf_validate.specs.Chains.{boundariesFault, layoutTablesFault}
 use Rattle.alf_validate.proofs.layout.layout_fault.Statement.{statement}
 use Rattle.alf_validate.proofs.layout.layout_fault.Tie as tie

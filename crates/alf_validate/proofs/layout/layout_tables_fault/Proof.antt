@@ -1,7 +1,8 @@
 -- `alf_validate::layout::layout_tables_fault` meets its contract: where cause 5 does not apply, each map is as long as the grid calls for.
 -- Assumes nothing.
 use borrow.Author.Needs.{needs}
-use Rattle.alf_spec.proofs.Faults.{stops, goes, and-same}
+use Rattle.alf_spec.proofs.Tests.{and-same}
+use Rattle.alf_spec.proofs.Faults.{stops, goes}
 use Rattle.alf_validate.specs.Chains.{layoutTablesFault}
 use Rattle.alf_validate.proofs.Layouts.{map-lengths}
 use Rattle.alf_validate.proofs.layout.layout_tables_fault.Statement.{statement}

@@ -5,7 +5,7 @@ use native.Mathlib.Omega.{arith}
 use borrow.Author.Needs.{needs}
 use Rattle.alf_spec.specs.Faults.{ctbRangesValid}
 use Rattle.alf_validate.specs.Tables.{parametersInput}
-use Rattle.alf_validate.proofs.CtbParameters.{slice-row, at-address, of-slice}
+use Rattle.alf_validate.proofs.CtbParameters.{slice-params, at-address, of-slice}
 use Rattle.alf_validate.proofs.parameters.ranges_valid.Statement.{statement}
 use Rattle.alf_validate.proofs.parameters.ranges_valid.Tie as tie
 
@@ -14,7 +14,7 @@ unfolding ctbRangesValid
 ranges-valid-spec =
     tie.close
     (tie.spec
-    (λ c κs. let s = c .before .before .before in (s .pre .1, slice-row _ _ _ _ (s .pre .0) _ (s .pre .1)))
+    (λ c κs. let s = c .before .before .before in (s .pre .1, slice-params _ _ _ _ (s .pre .0) _ (s .pre .1)))
     (λ c. search needs)
     (λ c. search needs)
     (λ c. search needs)
