@@ -4,6 +4,7 @@ mod damaged;
 
 use alf::fault_number;
 use alf::isolated;
+use alf::isolation_number;
 use alf_spec::Fault;
 use alf_spec::Isolation;
 use alf_spec::Picture;
@@ -55,7 +56,7 @@ fn show_width(width: u32, numbers: &[u8], region: &[u8]) {
     print(b"  ");
     print_number(width);
     print(b" -> ");
-    show(isolated(
+    let answer = isolated(
         plain(width, 8, 7),
         &virtual_columns,
         &virtual_rows,
@@ -65,7 +66,9 @@ fn show_width(width: u32, numbers: &[u8], region: &[u8]) {
         numbers,
         &subpic_across,
         region,
-    ));
+    );
+    print_number(isolation_number(answer) as u32);
+    print(b"\n");
 }
 
 // Two subpictures side by side in one tile and slice, no virtual boundary, left switch off, right on. A region is four rows of eight blocks.
@@ -92,7 +95,7 @@ fn show_half(region: &[u8]) {
 }
 
 fn main() {
-    print(b"picture widths\n");
+    print(b"the number answered for a picture width, 0 where it is accepted\n");
     let ctb = [0u8; 1];
     let ctbs = [0u8; 32];
     let block = [0u8; 1];
