@@ -18,7 +18,7 @@ use alf_spec::Picture;
 use alf_spec::Sides;
 
 // Whether b stands in the list of virtual boundaries.
-fn is_listed(boundaries: &[u16], b: u32) -> bool
+pub fn is_listed(boundaries: &[u16], b: u32) -> bool
     ensures { λ r. ⌜ r ≡ elem b (now (boundaries .entry)) ⌝ }
 {
     let mut i = 0;

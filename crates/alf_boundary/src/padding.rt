@@ -163,7 +163,7 @@ pub fn row_span(
 }
 
 // The smaller of two.
-fn least(a: u32, b: u32) -> u32
+pub fn least(a: u32, b: u32) -> u32
     ensures { λ r. ⌜ r ≡ min a b ⌝ }
 {
     if a < b { a } else { b }

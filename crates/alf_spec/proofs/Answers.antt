@@ -1,13 +1,14 @@
 -- What an answer of the judge says of the fault's number. Assumes nothing.
 use mathlib.Core.Path.{_≡_, refl, sym, _∙_, ap}
 use mathlib.Core.Bool.{Bool, false, _&&_}
+use mathlib.Core.List.{List}
 use Prim.Native.Nat.{ℕ, suc, pred}
 use lib.Dec.{eqb, eqb·suc-zero}
 use Rattle.alf_spec.specs.declared.Fault.{Fault}
 use Rattle.alf_spec.specs.declared.Fault.the-variants.{PictureSize, CtbSize, BitDepth, ChromaFormat, Length, VirtualBoundary, Tile, Slice, Subpicture, Parameter, Filter, Sample, Address, Region}
 use Rattle.alf_spec.specs.declared.Answer.{Answer}
 use Rattle.alf_spec.specs.declared.Answer.the-variants.{Accepted, Rejected}
-use Rattle.alf_spec.specs.Answers.{faultNumber, number}
+use Rattle.alf_spec.specs.Answers.{faultNumber, number, kept}
 
 -- no fault has the number 0
 pub numbered : (f : Fault) → faultNumber f ≡ suc (pred (faultNumber f))
@@ -41,3 +42,12 @@ module _ (a : Answer) {n : ℕ} (e : number a ≡ n) where
   -- it says what was found
   pub finds : a ≡ Accepted → {found says : Bool} → found ≡ says → {r : Bool} → found ≡ r → (0 ≡ n) × (r ≡ (eqb n 0 && says))
   finds q s h = (sym (accepts q), rw (accepts q) (sym h ∙ s))
+
+  -- what stands in the output: the old entries where the input is rejected, the new ones where it is accepted
+  pub stays : {f : Fault} → a ≡ Rejected f → (new : List ℕ) {old : List ℕ} → old ≡ kept n new old
+  stays {f} q new {old} =
+      let same : n ≡ suc (pred (faultNumber f)) = sym e ∙ ap number q ∙ numbered f in
+      rw same
+
+  pub written : a ≡ Accepted → {out new : List ℕ} (old : List ℕ) → out ≡ new → out ≡ kept n new old
+  written q old w = rw (accepts q) w

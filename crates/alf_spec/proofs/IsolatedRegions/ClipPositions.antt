@@ -1,5 +1,5 @@
--- A clip position is the first multiple of 4 on its side; where there is none, no virtual boundary is near, and the CTB's side, if it is near,
--- is not disabled. Assumes nothing.
+-- A clip position is the first multiple of 4 on its side, and one of three rules finds it; where there is none, no virtual boundary is near, nor
+-- the line-buffer boundary, and the CTB's side, if it is near, is not disabled. Assumes nothing.
 use mathlib.Core.Path.{_≡_, refl, sym, ap, _∙_}
 use mathlib.Core.Logic.{_⊎_, inl, inr}
 use mathlib.Core.Bool.{Bool, true, false, _&&_, true≢false}
@@ -22,11 +22,11 @@ pub data Ends (G : ℕ → Type 0) (N : Type 0) : Option ℕ → Type 0 where
   stops : {e : ℕ} → G e → Ends G N (some e)
   runs : N → Ends G N none
 
-module _ {G : ℕ → Type 0} where
-  map-ends : {N N′ : Type 0} {o : Option ℕ} → (N → N′) → Ends G N o → Ends G N′ o
-  map-ends f (stops g) = stops g
-  map-ends f (runs n) = runs (f n)
+map-ends : {G G′ : ℕ → Type 0} {N N′ : Type 0} {o : Option ℕ} → ((e : ℕ) → G e → G′ e) → (N → N′) → Ends G N o → Ends G′ N′ o
+map-ends h f (stops g) = stops (h _ g)
+map-ends h f (runs n) = runs (f n)
 
+module _ {G : ℕ → Type 0} where
   or-ends : {N N′ : Type 0} {o o′ : Option ℕ} → Ends G N o → Ends G N′ o′ → Ends G (N × N′) (o orElse o′)
   or-ends (stops g) k = stops g
   or-ends (runs n) (stops g) = stops g
@@ -41,7 +41,7 @@ module _ {G : ℕ → Type 0} where
   unfolding find
   find-ends f [] g = runs (λ v m. absurd (List·Memᴰ·not-nil m))
   find-ends f (v ∷ vs) g =
-      map-ends (λ n u m. pick n u (List·Memᴰ·cases-cons m))
+      map-ends (λ e g. g) (λ n u m. pick n u (List·Memᴰ·cases-cons m))
       (or-ends (only-ends (f v) v (g v (List·Memᴰ·head refl)) (λ q. q)) (find-ends f vs (λ u m. g u (List·Memᴰ·tail m))))
     where
       pick : (f v ≡ false) × ((u : ℕ) → List·Memᴰ u vs → f u ≡ false) → (u : ℕ) → (u ≡ v) ⊎ List·Memᴰ u vs → f u ≡ false
@@ -104,6 +104,21 @@ sideLimit after = 5
 abbrev pub Free : Axis → ℕ → (Side → Bool) → Side → Type 0
 Free a x disabled d = ((b : ℕ) → List·Memᴰ b (a .virtualBoundaries) → ¬ Near d x b) × (Near d x (bound a d x) → disabled d ≡ false)
 
+-- the rule that finds the clip position e of x on that side: the line-buffer boundary, a virtual boundary, or the CTB's side where it is disabled
+pub data Rule (a : Axis) (x : ℕ) (disabled : Side → Bool) (d : Side) (e : ℕ) : Type 0 where
+  line-rule : a .hasLine ≡ true → e ≡ linePosition a x → Rule a x disabled d e
+  virtual-rule : List·Memᴰ e (a .virtualBoundaries) → Rule a x disabled d e
+  side-rule : e ≡ bound a d x → disabled d ≡ true → Rule a x disabled d e
+
+pub record Found (a : Axis) (x : ℕ) (disabled : Side → Bool) (d : Side) (e : ℕ) : Type 0 where
+  pub first : First d x e
+  pub rule : Rule a x disabled d e
+
+-- no rule finds one
+pub record Clear (a : Axis) (x : ℕ) (disabled : Side → Bool) (d : Side) : Type 0 where
+  pub free : Free a x disabled d
+  pub noLine : a .hasLine ≡ true → ¬ Near d x (linePosition a x)
+
 module _ (a : Axis) (ok : Regular a) (x : ℕ) where
   start4 : ctbStart a x % 4 ≡ 0
   start4 =
@@ -114,6 +129,9 @@ module _ (a : Axis) (ok : Regular a) (x : ℕ) where
   bound4 before = start4
   bound4 after = omega (arith, start4, ok .ctb8)
 
+  pub line4 : linePosition a x % 4 ≡ 0
+  line4 = omega (arith, start4, ok .ctb8, ok .big)
+
   side-near : (d : Side) (n : ℕ) → n ≤ sideLimit d → sideTest a d x n ≡ true → Near d x (bound a d x)
   side-near before n h q = let k = ltb-true (inCtb a x) n q in omega (arith, lower a x, parts a x)
   side-near after n h q = let k = ltb-true (a .ctb - inCtb a x) n q in omega (arith, upper a ok x, parts a x)
@@ -122,37 +140,52 @@ module _ (a : Axis) (ok : Regular a) (x : ℕ) where
   near-side before n h k = lt-ltb (inCtb a x) n (omega (arith, parts a x))
   near-side after n h k = lt-ltb (a .ctb - inCtb a x) n (omega (arith, parts a x))
 
-  first-line : (d : Side) → Ends (First d x) Unit (lineClip a x d)
-  unfolding lineClip
-  first-line before = only-ends _ (linePosition a x) (λ q.
-      let l = leb-true (a .ctb - 4) (inCtb a x) (both (a .hasLine) (leb (a .ctb - 4) (inCtb a x)) q .1) in
-      omega (arith, start4, ok .ctb8, ok .big, upper a ok x, parts a x)) (λ _. tt)
-  first-line after = only-ends _ (linePosition a x) (λ q.
-      let h = both (ltb x (linePosition a x)) (leb (linePosition a x - x) 4) (both (a .hasLine) _ q .1) in
-      let l = ltb-true x (linePosition a x) (h .0) in
-      let k = leb-true (linePosition a x - x) 4 (h .1) in
-      omega (arith, start4, ok .ctb8, ok .big)) (λ _. tt)
-
-  first-virtual : (d : Side) → Ends (First d x) ((b : ℕ) → List·Memᴰ b (a .virtualBoundaries) → ¬ Near d x b) (virtualClip a x d)
-  unfolding virtualClip
-  first-virtual d =
-      map-ends (λ far b m n. true≢false (sym (yes-near d x b n) ∙ far b m))
-      (find-ends (near d x) (a .virtualBoundaries) (λ v m q. let v8 = ok .virtual8 v m in near-first d x v (omega arith) (near-yes d x v q)))
-
   module _ (disabled : Side → Bool) where
+    found-line : (d : Side) → Ends (Found a x disabled d) (a .hasLine ≡ true → ¬ Near d x (linePosition a x)) (lineClip a x d)
+    unfolding lineClip
+    found-line before = only-ends _ (linePosition a x)
+        (λ q.
+        let h = both (a .hasLine) (leb (a .ctb - 4) (inCtb a x)) q in
+        let l = leb-true (a .ctb - 4) (inCtb a x) (h .1) in
+        record { first = omega (arith, line4, ok .big, upper a ok x, parts a x); rule = line-rule (h .0) refl })
+        (λ q line n.
+        true≢false (sym (le-leb (a .ctb - 4) (inCtb a x) (omega (arith, parts a x))) ∙ and-no (a .hasLine) (leb (a .ctb - 4) (inCtb a x)) q line))
+    found-line after = only-ends _ (linePosition a x)
+        (λ q.
+        let h = both (a .hasLine) (near after x (linePosition a x)) q in
+        record { first = near-first after x (linePosition a x) line4 (near-yes after x (linePosition a x) (h .1)); rule = line-rule (h .0) refl })
+        (λ q line n. true≢false (sym (yes-near after x (linePosition a x) n) ∙ and-no (a .hasLine) (near after x (linePosition a x)) q line))
+
+    found-virtual : (d : Side)
+        → Ends (Found a x disabled d) ((b : ℕ) → List·Memᴰ b (a .virtualBoundaries) → ¬ Near d x b) (virtualClip a x d)
+    unfolding virtualClip
+    found-virtual d =
+        map-ends (λ e g. g) (λ far b m n. true≢false (sym (yes-near d x b n) ∙ far b m))
+        (find-ends (near d x) (a .virtualBoundaries) (λ v m q.
+        let v8 = ok .virtual8 v m in
+        record { first = near-first d x v (omega arith) (near-yes d x v q); rule = virtual-rule m }))
+
     tested-side : (d : Side) (n : ℕ) → n ≤ sideLimit d → sideLimit d ≤ n
-        → Ends (First d x) (Near d x (bound a d x) → disabled d ≡ false) (only (sideTest a d x n && disabled d) (bound a d x))
+        → Ends (Found a x disabled d) (Near d x (bound a d x) → disabled d ≡ false) (only (sideTest a d x n && disabled d) (bound a d x))
     tested-side d n h k =
         only-ends (sideTest a d x n && disabled d) (bound a d x)
-        (λ q. near-first d x (bound a d x) (bound4 d) (side-near d n h (both (sideTest a d x n) (disabled d) q .0)))
+        (λ q.
+        let t = both (sideTest a d x n) (disabled d) q in
+        record { first = near-first d x (bound a d x) (bound4 d) (side-near d n h (t .0)); rule = side-rule refl (t .1) })
         (λ q near. and-no (sideTest a d x n) (disabled d) q (near-side d n k near))
 
-    first-side : (d : Side) → Ends (First d x) (Near d x (bound a d x) → disabled d ≡ false) (sideClip a x disabled d)
+    found-side : (d : Side) → Ends (Found a x disabled d) (Near d x (bound a d x) → disabled d ≡ false) (sideClip a x disabled d)
     unfolding sideClip
-    first-side before = tested-side before _ (omega arith) (omega arith)
-    first-side after = tested-side after _ (omega arith) (omega arith)
+    found-side before = tested-side before _ (omega arith) (omega arith)
+    found-side after = tested-side after _ (omega arith) (omega arith)
+
+    pub clip-found : (d : Side) → Ends (Found a x disabled d) (Clear a x disabled d) (clipPosition a x disabled d)
+    unfolding clipPosition
+    clip-found before =
+        map-ends (λ e g. g) (λ n. record { free = n .1; noLine = n .0 }) (or-ends (found-line before) (or-ends (found-virtual before) (found-side before)))
+    clip-found after =
+        map-ends (λ e g. g) (λ n. record { free = (n .0, n .1 .1); noLine = n .1 .0 })
+        (or-ends (found-virtual after) (or-ends (found-line after) (found-side after)))
 
     pub clip-ends : (d : Side) → Ends (First d x) (Free a x disabled d) (clipPosition a x disabled d)
-    unfolding clipPosition
-    clip-ends before = map-ends (λ n. n .1) (or-ends (first-line before) (or-ends (first-virtual before) (first-side before)))
-    clip-ends after = map-ends (λ n. (n .0, n .1 .1)) (or-ends (first-virtual after) (or-ends (first-line after) (first-side after)))
+    clip-ends d = map-ends (λ e f. f .first) (λ n. n .free) (clip-found d)

@@ -25,7 +25,7 @@ leaves a ok before x u t ne =
 leaves a ok after x u t ne = (upper a ok x, past-end a x u t ne)
 
 -- u stands past the boundary b
-abbrev Beyond : Side → ℕ → ℕ → Type 0
+abbrev pub Beyond : Side → ℕ → ℕ → Type 0
 Beyond before b u = u < b
 Beyond after b u = b ≤ u
 
@@ -45,7 +45,7 @@ module _ (a : Axis) (ok : Regular a) (ratio : Ratio (a .ratio)) (x u : ℕ) wher
   past before h = lt-ltb u (ctbEnd a before x) (own-lt (a .ratio) ratio (ctbStart a X) u (bound4 a ok X before) (h .1))
   past after h = lt-ltb (ctbEnd a after x) u (after-last .1 (h .1))
 
-  beyond : (d : Side) → pastCtb a d x u ≡ true → Beyond d (bound a d X) U
+  pub beyond : (d : Side) → pastCtb a d x u ≡ true → Beyond d (bound a d X) U
   beyond before q = lt-own (a .ratio) (ctbStart a X) u (ltb-true u (ctbEnd a before x) q)
   beyond after q = after-last .0 (ltb-true (ctbEnd a after x) u q)
 

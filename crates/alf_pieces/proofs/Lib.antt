@@ -1,0 +1,12 @@
+-- Laws that the proofs of this crate, and of those above it, cite.
+pub mod Painted
+pub mod Regions
+pub mod NextBoundary
+pub mod BoundaryScan
+pub mod PieceEnds
+pub mod PieceClips
+pub mod PieceReads
+pub mod PieceFacts
+pub mod CopyReads
+pub mod CopyRows
+pub mod CopySamples

@@ -1,0 +1,97 @@
+-- Lists of which a part is written anew: the form of a loop's invariant, and how the part grows, by a store or by a call. Assumes nothing.
+use mathlib.Core.Path.{_≡_, refl, sym, ap, _∙_}
+use mathlib.Core.Bool.{Bool, true, false, _||_, cond}
+use mathlib.Core.List.{List}
+use Prim.Native.Nat.{ℕ, _<_}
+use native.Mathlib.Omega.{arith}
+use native.Mathlib.Decide.{ℕ-discrete}
+use lib.Dec.{eqb}
+use lib.ListN.{length, getD, set, length-set}
+use lib.Seq.{ext-getD, getD-set-same, getD-set-other}
+use borrow.Author.Tests.{eq-eqb, ne-eqb}
+use Rattle.alf_spec.specs.Lists.{tabulate, painted}
+use Rattle.alf_spec.proofs.Lists.{tabulate-at, tabulate-length, painted-at, painted-length}
+
+-- ys is xs with the entries at which the test passes written anew. A loop's invariant has this form: unification finds its arguments, and
+-- `omega` the length.
+pub record Paint (xs : List ℕ) (test : ℕ → Bool) (value : ℕ → ℕ) (ys : List ℕ) : Type 0 where
+  pub len : length ys ≡ length xs
+  pub at : (k : ℕ) → k < length xs → getD ys k 0 ≡ cond (test k) (value k) (getD xs k 0)
+
+-- ---- to the equation of a contract, and back
+
+pub paint-is : {xs ys : List ℕ} {p : ℕ → Bool} {v : ℕ → ℕ} → Paint xs p v ys → ys ≡ painted xs p v
+paint-is {xs} {ys} {p} {v} P =
+    ext-getD 0 ys (painted xs p v) (P .len ∙ sym (painted-length xs p v)) (λ k h.
+    let below : k < length xs = omega (arith, P .len) in
+    P .at k below ∙ sym (painted-at xs p v k below))
+
+pub paint-of : {xs ys : List ℕ} {p : ℕ → Bool} {v : ℕ → ℕ} → ys ≡ painted xs p v → Paint xs p v ys
+paint-of {xs} {ys} {p} {v} e = record {
+  len = ap length e ∙ painted-length xs p v;
+  at = λ k h. ap (λ (zs : List ℕ). getD zs k 0) e ∙ painted-at xs p v k h;
+}
+
+-- the whole list is written
+pub paint-all : {xs ys : List ℕ} {p : ℕ → Bool} {v : ℕ → ℕ} → Paint xs p v ys → ((k : ℕ) → k < length xs → p k ≡ true) → ys ≡ tabulate (length xs) v
+paint-all {xs} {ys} {p} {v} P h =
+    ext-getD 0 ys (tabulate (length xs) v) (P .len ∙ sym (tabulate-length (length xs) v)) (λ k l.
+    let below : k < length xs = omega (arith, P .len) in
+    P .at k below ∙ rw (h k below) (sym (tabulate-at (length xs) v k below)))
+
+-- ---- what stands in it
+
+pub paint-in : {xs ys : List ℕ} {p : ℕ → Bool} {v : ℕ → ℕ} → Paint xs p v ys → (k : ℕ) → k < length xs → p k ≡ true → getD ys k 0 ≡ v k
+paint-in P k h e = P .at k h ∙ rw e
+
+pub paint-out : {xs ys : List ℕ} {p : ℕ → Bool} {v : ℕ → ℕ} → Paint xs p v ys → (k : ℕ) → k < length xs → p k ≡ false → getD ys k 0 ≡ getD xs k 0
+paint-out P k h e = P .at k h ∙ rw e
+
+-- ---- how it grows
+
+-- nothing is written yet
+pub paint-none : {xs : List ℕ} {p : ℕ → Bool} {v : ℕ → ℕ} → ((k : ℕ) → p k ≡ false) → Paint xs p v xs
+paint-none h = record { len = refl; at = λ k l. rw (h k) }
+
+over : (p r : Bool) (w v x : ℕ) → (r ≡ true → w ≡ v) → cond r w (cond p v x) ≡ cond (p || r) v x
+over true true w v x e = e refl
+over true false w v x e = refl
+over false true w v x e = e refl
+over false false w v x e = refl
+
+-- one more call, which writes the part r with values that agree there; q is the part in all
+pub paint-call : {xs ys zs : List ℕ} {p q : ℕ → Bool} {v : ℕ → ℕ} (r : ℕ → Bool) (w : ℕ → ℕ) → Paint xs p v ys → zs ≡ painted ys r w
+    → ((k : ℕ) → k < length xs → r k ≡ true → w k ≡ v k) → ((k : ℕ) → k < length xs → q k ≡ (p k || r k)) → Paint xs q v zs
+paint-call {xs} {ys} {zs} {p} {q} {v} r w P e agree grows =
+    let R = paint-of {xs = ys} {ys = zs} {p = r} {v = w} e in
+    record {
+      len = R .len ∙ P .len;
+      at = λ k h.
+          R .at k (omega (arith, P .len)) ∙ ap (λ (x : ℕ). cond (r k) (w k) x) (P .at k h) ∙ over (p k) (r k) (w k) (v k) (getD xs k 0) (agree k h)
+          ∙ ap (λ (b : Bool). cond b (v k) (getD xs k 0)) (sym (grows k h));
+    }
+
+-- a store writes one entry
+pub store : (xs : List ℕ) (j w : ℕ) (v : ℕ → ℕ) → j < length xs → w ≡ v j → Paint xs (eqb j) v (set xs j w)
+store xs j w v h e = record { len = length-set xs j w; at = λ k l. here k (ℕ-discrete j k) }
+  where
+    here : (k : ℕ) → Dec (j ≡ k) → getD (set xs j w) k 0 ≡ cond (eqb j k) (v k) (getD xs k 0)
+    here k (yes q) = rw (eq-eqb j k q) (rw (← q) (getD-set-same xs j w 0 h ∙ e))
+    here k (no q) = rw (ne-eqb j k q) (getD-set-other xs j k w 0 (λ z. q (sym z)))
+
+-- one more store
+pub paint-set : {xs ys : List ℕ} {p q : ℕ → Bool} {v : ℕ → ℕ} (j w : ℕ) → Paint xs p v ys → j < length ys → w ≡ v j
+    → ((k : ℕ) → k < length xs → q k ≡ (p k || eqb j k)) → Paint xs q v (set ys j w)
+paint-set {ys = ys} {v = v} j w P h e grows = paint-call (eqb j) v P (paint-is (store ys j w v h e)) (λ k l r. refl) grows
+
+-- the same part, by another test and other values
+pub paint-same : {xs ys : List ℕ} {p q : ℕ → Bool} {v w : ℕ → ℕ} → Paint xs p v ys → ((k : ℕ) → k < length xs → q k ≡ p k)
+    → ((k : ℕ) → k < length xs → q k ≡ true → v k ≡ w k) → Paint xs q w ys
+paint-same {xs} {ys} {p} {q} {v} {w} P same agree = record {
+  len = P .len;
+  at = λ k h. P .at k h ∙ ap (λ (b : Bool). cond b (v k) (getD xs k 0)) (sym (same k h)) ∙ pick (q k) (getD xs k 0) (agree k h);
+}
+  where
+    pick : {m n : ℕ} (b : Bool) (x : ℕ) → (b ≡ true → m ≡ n) → cond b m x ≡ cond b n x
+    pick true x e = e refl
+    pick false x e = refl

@@ -1,0 +1,209 @@
+-- What a piece of a CTB says of the samples in it, along one axis: the reads of `alf_spec` are clamped to the piece's own numbers. Assumes nothing.
+use mathlib.Core.Path.{_≡_, refl, sym, ap, _∙_, subst}
+use mathlib.Core.Bool.{Bool, true, false, _&&_, true≢false}
+use mathlib.Core.Option.{Option}
+use Prim.Native.Nat.{ℕ, pred, _*_, _/_, _%_, _≤_, _<_}
+use native.Mathlib.Nat.{mul-le-mul-right}
+use native.Mathlib.Omega.{arith}
+use lib.Dec.{leb, ltb}
+use borrow.Author.Tests.{ltb-true, leb-true, lt-ltb, le-ltb, le-leb, lt-leb}
+use Rattle.alf_spec.specs.Geometry.{Side, before, after, Axis, samples, lumaPosition, ctbStart}
+use Rattle.alf_spec.specs.Boundary.{clipPosition}
+use Rattle.alf_spec.specs.Padding.{isNone, clamped, ctbEnd, pastCtb}
+use Rattle.alf_spec.proofs.Tests.{both, same-test, cond-either}
+use Rattle.alf_spec.proofs.Axes.{Regular, ctb-of}
+use Rattle.alf_spec.proofs.IsolatedRegions.Ratios.{Ratio, own-le, le-own, own-lt, lt-own, boundary}
+use Rattle.alf_spec.proofs.IsolatedRegions.Reach.{Reach}
+use Rattle.alf_spec.proofs.IsolatedRegions.ClipPositions.{bound, bound4}
+use Rattle.alf_spec.proofs.IsolatedRegions.PastCtb.{past as past-ctb, beyond}
+use Rattle.alf_pieces.specs.declared.pieces.Piece.{Piece}
+use Rattle.alf_pieces.specs.Pieces.{ctbLimit, pieceEnd, cutAt, pieceAt, Begins, PieceOf, PieceIn}
+use Rattle.alf_pieces.specs.Copies.{held}
+use Rattle.alf_pieces.proofs.PieceEnds.{Span, span, start4, end4, next-begins}
+use Rattle.alf_pieces.proofs.PieceClips.{tip, Meets, at-end, open-end, far-end, meets, open-of}
+use Rattle.alf_pieces.proofs.PieceReads.{own-is, own-sum, own-most, inside, reach-inside, clamped-same}
+
+-- u lies past the piece on that side
+abbrev pub pastPiece : Side → Piece → ℕ → Bool
+pastPiece before p u = ltb u (p .start)
+pastPiece after p u = leb (p .end) u
+
+-- the piece's outermost sample on that side
+abbrev pub outer : Side → Piece → ℕ
+outer before p = p .start
+outer after p = pred (p .end)
+
+-- x is a sample of the piece, and u a neighbour in reach of it
+pub record InPiece (a : Axis) (p : Piece) (x u : ℕ) : Type 0 where
+  pub low : p .start ≤ x
+  pub high : x < p .end
+  pub reach : Reach (lumaPosition a x) (lumaPosition a u)
+
+-- what the proofs of copies and kernels use of a piece
+pub record Facts (a : Axis) (disabled : Side → Bool) (q : ℕ) (p : Piece) : Type 0 where
+  -- its numbers
+  pub numbers : PieceIn (samples a) p
+  -- it lies in the CTB at place q, and begins and ends at multiples of 4 luma samples
+  pub from : q * a .ctb ≤ lumaPosition a (p .start)
+  pub upto : lumaPosition a (p .end) ≤ ctbLimit a q
+  pub start4 : lumaPosition a (p .start) % 4 ≡ 0
+  pub end4 : lumaPosition a (p .end) % 4 ≡ 0
+  -- where it ends within the CTB, another may begin
+  pub next : lumaPosition a (p .end) < ctbLimit a q → Begins a q (lumaPosition a (p .end))
+  -- a read from a sample of it is clamped to the piece's numbers
+  pub reads : (x u : ℕ) → InPiece a p x u → clamped a (clipPosition a (lumaPosition a x) disabled) u ≡ held (p .lowest) (p .limit) u
+  -- a read past the CTB with no clip position between is a read past the piece
+  pub past : (x u : ℕ) → InPiece a p x u → (d : Side)
+      → (pastCtb a d x (held (p .lowest) (p .limit) u) && isNone (clipPosition a (lumaPosition a x) disabled d)) ≡ pastPiece d p (held (p .lowest) (p .limit) u)
+  -- and the CTB's outermost sample is then the piece's
+  pub edge : (x u : ℕ) → InPiece a p x u → (d : Side) → pastPiece d p (held (p .lowest) (p .limit) u) ≡ true → ctbEnd a d x ≡ outer d p
+
+-- ---- past an end
+
+-- reads stop at that end
+abbrev Closed : Side → Piece → Type 0
+Closed before p = p .lowest ≡ p .start
+Closed after p = p .limit ≡ p .end
+
+-- so that none is past it
+kept : (n : ℕ) (p : Piece) → PieceIn n p → (d : Side) → Closed d p → (u : ℕ) → pastPiece d p (held (p .lowest) (p .limit) u) ≡ false
+kept n p i before c u = le-ltb (held (p .lowest) (p .limit) u) (p .start) (omega (arith, i .filled, i .high))
+kept n p i after c u = lt-leb (p .end) (held (p .lowest) (p .limit) u) (omega (arith, i .filled))
+
+module _ (a : Axis) (ok : Regular a) (ratio : Ratio (a .ratio)) (disabled : Side → Bool) (q s : ℕ)
+    (part : Span a q (lumaPosition a s) (pieceEnd a q (lumaPosition a s))) where
+  abbrev lo : ℕ
+  lo = lumaPosition a s
+
+  abbrev hi : ℕ
+  hi = pieceEnd a q lo
+
+  abbrev p : Piece
+  p = pieceAt a disabled q s
+
+  numbers : a .ctb ≤ 128 → PieceIn (samples a) p
+  unfolding pieceAt
+  numbers small =
+      let n4 : a .size % 4 ≡ 0 = omega (arith, ok .size8) in
+      let most : hi / a .ratio ≤ samples a = own-le (a .ratio) hi (samples a) (omega (arith, part .upto, boundary (a .ratio) ratio (a .size) n4)) in
+      record {
+        low = cond-either (λ n. n ≤ s) (cutAt a disabled q before lo) s 0 (omega arith) (omega arith);
+        filled = own-lt (a .ratio) ratio hi s (end4 a ok q lo hi part) (part .filled);
+        high = cond-either (λ n. hi / a .ratio ≤ n) (cutAt a disabled q after hi) (hi / a .ratio) (samples a) (omega arith) most;
+        inside = cond-either (λ n. n ≤ samples a) (cutAt a disabled q after hi) (hi / a .ratio) (samples a) most (omega arith);
+        small = own-most (a .ratio) ratio hi s 128 (omega (arith, part .upto, part .from));
+      }
+
+  end-luma : lumaPosition a (p .end) ≡ hi
+  unfolding pieceAt
+  end-luma = boundary (a .ratio) ratio hi (end4 a ok q lo hi part)
+
+  closed : (d : Side) → cutAt a disabled q d (tip d lo hi) ≡ true → Closed d p
+  unfolding pieceAt
+  closed before e = rw e refl
+  closed after e = rw e refl
+
+  -- the sample x of the piece, and its neighbour u
+  module _ (n : PieceIn (samples a) p) (x u : ℕ) (h : InPiece a p x u) where
+    abbrev X : ℕ
+    X = lumaPosition a x
+
+    low : lo ≤ X
+    unfolding pieceAt
+    low = mul-le-mul-right (a .ratio) (h .low)
+
+    high : X < hi
+    unfolding pieceAt
+    high = lt-own (a .ratio) hi x (h .high)
+
+    place : X / a .ctb ≡ q
+    place = ctb-of a q X (omega (arith, part .from, low)) (omega (arith, part .upto, high))
+
+    start-is : ctbStart a X ≡ q * a .ctb
+    start-is = ap (λ (m : ℕ). m * a .ctb) place
+
+    inPlane : x < samples a
+    inPlane = omega (arith, h .high, n .high, n .inside)
+
+    met : (d : Side) → Meets d (tip d lo hi) X (lumaPosition a (inside a u)) (clipPosition a X disabled d) (cutAt a disabled q d (tip d lo hi))
+    met d =
+        let here : Span a (X / a .ctb) lo hi = subst (λ (m : ℕ). Span a m lo hi) (sym place) part in
+        let inPicture = lt-own (a .ratio) (a .size) (inside a u) (omega (arith, inPlane)) in
+        subst (λ (m : ℕ). Meets d (tip d lo hi) X (lumaPosition a (inside a u)) (clipPosition a X disabled d) (cutAt a disabled m d (tip d lo hi))) place
+        (meets a ok disabled X lo hi here low high (lumaPosition a (inside a u)) (reach-inside a x u inPlane (h .reach)) inPicture d)
+
+    reads : clamped a (clipPosition a X disabled) u ≡ held (p .lowest) (p .limit) u
+    unfolding pieceAt
+    reads =
+        clamped-same a x u ratio s hi (clipPosition a X disabled) (cutAt a disabled q before lo) (cutAt a disabled q after hi)
+        (h .low) high (end4 a ok q lo hi part) (omega (arith, n .high, n .inside)) (met before) (met after)
+
+    -- ---- past the piece, and past the CTB
+
+    from-ctb : (d : Side) (v : ℕ) → pastCtb a d x v ≡ true → pastPiece d p v ≡ true
+    unfolding pieceAt
+    from-ctb before v t =
+        let l : lumaPosition a v < lo = omega (arith, start-is, beyond a ok ratio x v before t, part .from) in
+        lt-ltb v s (rw (own-is (a .ratio) ratio s) at (own-lt (a .ratio) ratio lo v (start4 a ok q lo hi part) l))
+    from-ctb after v t =
+        le-leb (hi / a .ratio) v (own-le (a .ratio) hi v (omega (arith, start-is, beyond a ok ratio x v after t, part .upto)))
+
+    to-ctb : (d : Side) (v : ℕ) → tip d lo hi ≡ bound a d X → pastPiece d p v ≡ true → pastCtb a d x v ≡ true
+    unfolding pieceAt
+    to-ctb before v e t =
+        let l : v < lo / a .ratio = rw (own-is (a .ratio) ratio s) (ltb-true v s t) in
+        past-ctb a ok ratio x v before (omega (arith, low, lt-own (a .ratio) lo v l))
+    to-ctb after v e t =
+        let l = le-own (a .ratio) ratio hi v (end4 a ok q lo hi part) (leb-true (hi / a .ratio) v t) in
+        past-ctb a ok ratio x v after (omega (arith, high))
+
+    -- the neighbour, clamped
+    abbrev v : ℕ
+    v = held (p .lowest) (p .limit) u
+
+    not-cut : (d : Side) → pastPiece d p v ≡ true → cutAt a disabled q d (tip d lo hi) ≡ false
+    not-cut d t = by (cutAt a disabled q d (tip d lo hi)) refl
+      where
+        by : (c : Bool) → cutAt a disabled q d (tip d lo hi) ≡ c → c ≡ false
+        by true e = absurd (true≢false (sym t ∙ kept (samples a) p n d (closed d e) u))
+        by false e = refl
+
+    at-bound : (d : Side) → pastPiece d p v ≡ true → tip d lo hi ≡ bound a d X
+    at-bound d t = open-of a ok disabled X d (tip d lo hi) (subst (λ (m : ℕ). cutAt a disabled m d (tip d lo hi) ≡ false) (sym place) (not-cut d t)) .0
+
+    no-clip : (d : Side) (o : Option ℕ) (c : Bool) → Meets d (tip d lo hi) X (lumaPosition a (inside a u)) o c → c ≡ false → isNone o ≡ true
+    no-clip d _ _ at-end q = absurd (true≢false q)
+    no-clip d _ _ open-end q = refl
+    no-clip d _ _ (far-end f) q = refl
+
+    past : (d : Side) → (pastCtb a d x v && isNone (clipPosition a X disabled d)) ≡ pastPiece d p v
+    past d =
+        same-test _ _ (λ t. from-ctb d v (both (pastCtb a d x v) _ t .0))
+        (λ t. simp (to-ctb d v (at-bound d t) t, no-clip d _ _ (met d) (not-cut d t)))
+
+    edge : (d : Side) → pastPiece d p v ≡ true → ctbEnd a d x ≡ outer d p
+    unfolding pieceAt
+    edge before t = rw (← (at-bound before t)) (own-is (a .ratio) ratio s)
+    edge after t =
+        let sum = own-sum (a .ratio) ratio (ctbStart a X) (a .ctb) (bound4 a ok X before) (ok .ctb8) in
+        ap pred (sym sum ∙ ap (λ (m : ℕ). m / a .ratio) (sym (at-bound after t)))
+
+  facts : a .ctb ≤ 128 → Facts a disabled q p
+  unfolding pieceAt
+  facts small = record {
+    numbers = numbers small;
+    from = part .from;
+    upto = rw end-luma (part .upto);
+    start4 = start4 a ok q lo hi part;
+    end4 = rw end-luma (end4 a ok q lo hi part);
+    next = rw end-luma (next-begins a ok q lo hi part);
+    reads = λ x u h. reads (numbers small) x u h;
+    past = λ x u h. past (numbers small) x u h;
+    edge = λ x u h. edge (numbers small) x u h;
+  }
+
+pub piece-facts : (a : Axis) → Regular a → Ratio (a .ratio) → a .ctb ≤ 128 → (disabled : Side → Bool) (q : ℕ) (p : Piece)
+    → PieceOf a disabled q p → Facts a disabled q p
+piece-facts a ok ratio small disabled q p h =
+    let part = span a q (lumaPosition a (p .start)) (h .upto) (h .from) (h .begins) in
+    subst (Facts a disabled q) (sym (h .is)) (facts a ok ratio disabled q (p .start) part small)

@@ -1,0 +1,175 @@
+// The copy of a piece with its margin: 3 samples more on each side, so that kernels read every neighbour without clamping.
+ghost use mathlib.Core.Path.{_≡_};
+ghost use Prim.Native.Nat.{_+_, _-_, _*_, _^_, _≤_, _<_};
+ghost use lib.ListN.{length};
+ghost use Rattle.alf_spec.specs.Lists.{painted};
+ghost use Rattle.alf_pieces.specs.Regions.{between};
+ghost use Rattle.alf_pieces.specs.Pieces.{PieceIn};
+ghost use Rattle.alf_pieces.specs.Copies.{held as heldIn, extent as extentOf, pitch, copyLength, rowLowest, rowLimit, copyAt, runAt, rowAt};
+use crate::pieces::Piece;
+use alf_spec::Sides;
+
+// Position p, held to those from `lowest` to `limit`.
+fn held(lowest: usize, limit: usize, p: usize) -> usize
+    requires { ⌜ lowest < limit ⌝ }
+    ensures { λ r. ⌜ r ≡ heldIn lowest limit p ⌝ }
+{
+    if p < lowest {
+        return lowest;
+    }
+    if p < limit {
+        return p;
+    }
+    limit - 1
+}
+
+// The samples of a piece along its axis.
+fn extent(piece: Piece) -> usize
+    requires { ⌜ piece .start ≤ piece .end ⌝ }
+    ensures { λ r. ⌜ r ≡ extentOf piece ⌝ }
+{
+    (piece.end - piece.start) as usize
+}
+
+// The position that stands at place i of the copy of a piece, before it is held: the margin begins 3 samples before the piece.
+fn position(start: usize, i: usize) -> usize
+    requires { ⌜ start + i < 2 ^ 63 ⌝ }
+    ensures { λ r. ⌜ r ≡ start + i - 3 ⌝ }
+{
+    if start + i < 3 {
+        return 0;
+    }
+    start + i - 3
+}
+
+// The first column that is read in the plane's row v.
+fn row_lowest(columns: Piece, rows: Piece, sides: Sides, v: usize) -> usize
+    ensures { λ r. ⌜ r ≡ rowLowest columns rows sides v ⌝ }
+{
+    if sides.upper_left & (v < rows.start as usize) {
+        columns.start as usize
+    } else {
+        columns.lowest as usize
+    }
+}
+
+// The first column that is not read any more in the plane's row v.
+fn row_limit(columns: Piece, rows: Piece, sides: Sides, v: usize) -> usize
+    ensures { λ r. ⌜ r ≡ rowLimit columns rows sides v ⌝ }
+{
+    if sides.lower_right & (rows.end as usize <= v) {
+        columns.end as usize
+    } else {
+        columns.limit as usize
+    }
+}
+
+// n samples from `from` on, to `at`.
+fn copy_run(plane: &[u16], from: usize, n: usize, copy: &mut [u16], at: usize)
+    requires { ⌜ (from + n ≤ length (now plane)) × (at + n ≤ length (now copy)) ⌝ }
+    ensures { λ _. ⌜ now (copy .exit) ≡ painted (now (copy .entry)) (between at n) (runAt (now (plane .entry)) from at) ⌝ }
+{
+    let mut i: usize = 0;
+    while i < n {
+        copy[at + i] = plane[from + i];
+        i += 1;
+    }
+}
+
+// The margin on one side of a row of the copy: the 3 samples from its place i on. The row begins at `at`, the plane's row at `row`.
+fn copy_side(
+    plane: &[u16],
+    row: usize,
+    lowest: usize,
+    limit: usize,
+    start: usize,
+    copy: &mut [u16],
+    at: usize,
+    i: usize,
+)
+    requires { ⌜ (lowest < limit) × (row + limit ≤ length (now plane)) × (start ≤ limit) × (at + i + 3 ≤ length (now copy)) ⌝ }
+    ensures { λ _. ⌜ now (copy .exit) ≡ painted (now (copy .entry)) (between (at + i) 3) (rowAt (now (plane .entry)) row lowest limit start at) ⌝ }
+{
+    let mut k: usize = 0;
+    while k < 3 {
+        let column = held(lowest, limit, position(start, i + k));
+        copy[at + i + k] = plane[row + column];
+        k += 1;
+    }
+}
+
+// A row of the copy: the margin, n samples, the margin.
+fn copy_row(
+    plane: &[u16],
+    row: usize,
+    lowest: usize,
+    limit: usize,
+    start: usize,
+    n: usize,
+    copy: &mut [u16],
+    at: usize,
+)
+    requires { ⌜ (lowest ≤ start) × (0 < n) × (start + n ≤ limit) × (row + limit ≤ length (now plane)) × (at + (n + 6) ≤ length (now copy)) ⌝ }
+    ensures { λ _. ⌜ now (copy .exit) ≡ painted (now (copy .entry)) (between at (n + 6)) (rowAt (now (plane .entry)) row lowest limit start at) ⌝ }
+{
+    copy_side(plane, row, lowest, limit, start, copy, at, 0);
+    copy_run(plane, row + start, n, copy, at + 3);
+    copy_side(plane, row, lowest, limit, start, copy, at, n + 3);
+}
+
+// Row j of the copy of a piece. Past a corner it has its own range of columns.
+fn copy_row_of(
+    plane: &[u16],
+    width: usize,
+    columns: Piece,
+    rows: Piece,
+    sides: Sides,
+    copy: &mut [u16],
+    j: usize,
+)
+    requires { ⌜ (PieceIn width columns) × (rows .lowest ≤ rows .start) × (rows .start < rows .end) × (rows .end ≤ rows .limit)
+        × (rows .limit * width ≤ length (now plane)) × (copyLength columns rows ≤ length (now copy)) × (j < pitch rows) ⌝ }
+    ensures { λ _. ⌜ now (copy .exit) ≡ painted (now (copy .entry)) (between (j * pitch columns) (pitch columns))
+        (copyAt columns rows sides (now (plane .entry)) width) ⌝ }
+{
+    let v = held(
+        rows.lowest as usize,
+        rows.limit as usize,
+        position(rows.start as usize, j),
+    );
+    let lowest = row_lowest(columns, rows, sides, v);
+    let limit = row_limit(columns, rows, sides, v);
+    let n = extent(columns);
+    copy_row(
+        plane,
+        v * width,
+        lowest,
+        limit,
+        columns.start as usize,
+        n,
+        copy,
+        j * (n + 6),
+    );
+}
+
+// The copy of a piece of a plane of so many columns; the sides are its CTB's.
+pub fn copy_piece(
+    plane: &[u16],
+    width: usize,
+    columns: Piece,
+    rows: Piece,
+    sides: Sides,
+    copy: &mut [u16],
+)
+    requires { ⌜ (PieceIn width columns) × (rows .lowest ≤ rows .start) × (rows .start < rows .end) × (rows .end ≤ rows .limit)
+        × (rows .limit * width ≤ length (now plane)) × (copyLength columns rows ≤ length (now copy)) ⌝ }
+    ensures { λ _. ⌜ now (copy .exit) ≡ painted (now (copy .entry)) (between 0 (copyLength columns rows))
+        (copyAt columns rows sides (now (plane .entry)) width) ⌝ }
+{
+    let count = extent(rows) + 6;
+    let mut j: usize = 0;
+    while j < count {
+        copy_row_of(plane, width, columns, rows, sides, copy, j);
+        j += 1;
+    }
+}
