@@ -1,4 +1,5 @@
--- The CTBs of an accepted layout by their addresses: what the isolation test needs to know of one, and what its answer says. Assumes nothing.
+-- The CTBs of an accepted layout by their addresses: where one lies, what the isolation test needs to know of it, and what its answer says.
+-- Assumes nothing.
 use mathlib.Core.Path.{_≡_, sym, _∙_, ap}
 use mathlib.Core.Bool.{Bool}
 use mathlib.Core.List.{List}
@@ -27,6 +28,22 @@ use Rattle.alf_boundary.proofs.CtbSteps.{ctb-by-sides}
 begins : (s n q : ℕ) {count : ℕ} → 0 < s → count ≡ (n + (s - 1)) / s → q < count → q * s < n
 begins s n q h e l = omega (arith, le-div-iff-mul-le {k = s} {x = suc q} h .0 (rw e at l))
 
+-- the CTB at address k of an accepted layout
+module _ (l : Layout) (ok : Accepted l) {g : Grid} (h : GridOf (l .picture) g) (k : ℕ) (below : k < g .columns * g .rows) where
+  -- it is in the grid, and the tables have its entries
+  pub ctb-in-grid : (GridOf (l .picture) g) × (TablesOf g (l .tileColumns) (l .tileRows) (l .sliceMap) (l .subpicMap) (l .subpicAcross))
+      × (k % g .columns < g .columns) × (k / g .columns < g .rows)
+  ctb-in-grid = (h, tables-of l g h ok, mod-lt k (h .columnsLow), div-lt-iff-lt-mul (h .columnsLow) .1 (rw mul-comm at below))
+
+  -- it begins in the picture
+  pub ctb-in-picture : (k % g .columns * g .ctb < l .picture .width) × (k / g .columns * g .ctb < l .picture .height)
+  unfolding ctbsAlong
+  ctb-in-picture =
+      let positive : 0 < ctbSize (l .picture) = omega (arith, h .ctb, h .ctbLow) in
+      let column : k % g .columns * ctbSize (l .picture) < l .picture .width = begins _ _ _ positive (h .columns) (ctb-in-grid .2) in
+      let row : k / g .columns * ctbSize (l .picture) < l .picture .height = begins _ _ _ positive (h .rows) (ctb-in-grid .3) in
+      (rw (h .ctb) column, rw (h .ctb) row)
+
 -- of an accepted layout and region
 module _ (l : Layout) (region : List ℕ) (accepted : isolationFault l region ≡ 0) (g : Grid) (h : GridOf (l .picture) g) where
   ok : Accepted l
@@ -54,17 +71,12 @@ module _ (l : Layout) (region : List ℕ) (accepted : isolationFault l region �
     -- it is in the grid, and the tables have its entries
     pub in-grid : (GridOf (l .picture) g) × (TablesOf g (l .tileColumns) (l .tileRows) (l .sliceMap) (l .subpicMap) (l .subpicAcross))
         × (k % g .columns < g .columns) × (k / g .columns < g .rows)
-    in-grid = (h, tables-of l g h ok, mod-lt k (h .columnsLow), div-lt-iff-lt-mul (h .columnsLow) .1 (rw mul-comm at below))
+    in-grid = ctb-in-grid l ok h k below
 
     -- it begins in the picture, and the region has its blocks
     pub in-region : (BlocksOf (l .picture) (g .ctb) region)
         × (k % g .columns * g .ctb < l .picture .width) × (k / g .columns * g .ctb < l .picture .height)
-    unfolding ctbsAlong
-    in-region =
-        let positive : 0 < ctbSize (l .picture) = omega (arith, h .ctb, h .ctbLow) in
-        let column : k % g .columns * ctbSize (l .picture) < l .picture .width = begins _ _ _ positive (h .columns) (in-grid .2) in
-        let row : k / g .columns * ctbSize (l .picture) < l .picture .height = begins _ _ _ positive (h .rows) (in-grid .3) in
-        (blocks-of, rw (h .ctb) column, rw (h .ctb) row)
+    in-region = let begin = ctb-in-picture l ok h k below in (blocks-of, begin .0, begin .1)
 
     -- the code's answer for a CTB with these sides
     pub address-passes : {s : Sides} → SidesOf l (record { column = k % g .columns; row = k / g .columns }) s → {r : Bool}

@@ -110,7 +110,7 @@ fn side_clip_after(ctb: u32, disabled: bool, x: u32) -> Clip
     only_if((ctb - x % ctb < 5) & disabled, ctb_start(ctb, x) + ctb)
 }
 
-// The clip position left of x or above it: by the line, a virtual boundary, or the CTB's side.
+// The clip position left of x or above it: by the line-buffer boundary, a virtual boundary, or the CTB's side.
 pub fn clip_before(ctb: u32, line: bool, boundaries: &[u16], disabled: bool, x: u32) -> Clip
     requires { ⌜ Bounded ctb x ⌝ }
     ensures { λ r. ⌜ ((size ratio : ℕ) (off : Side → Bool) → off before ≡ disabled
@@ -122,7 +122,7 @@ pub fn clip_before(ctb: u32, line: bool, boundaries: &[u16], disabled: bool, x: 
     or_else(by_line, or_else(by_boundary, by_side))
 }
 
-// The clip position right of x or below it: by a virtual boundary, the line, or the CTB's side.
+// The clip position right of x or below it: by a virtual boundary, the line-buffer boundary, or the CTB's side.
 pub fn clip_after(ctb: u32, line: bool, boundaries: &[u16], disabled: bool, x: u32) -> Clip
     requires { ⌜ Bounded ctb x ⌝ }
     ensures { λ r. ⌜ ((size ratio : ℕ) (off : Side → Bool) → off after ≡ disabled

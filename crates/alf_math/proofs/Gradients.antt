@@ -1,15 +1,16 @@
 -- Bounds of what the direction test works out. Assumes nothing.
 use mathlib.Core.Path.{_≡_, refl}
 use mathlib.Core.Bool.{Bool, true, false, cond}
-use Prim.Native.Nat.{ℕ, _*_, _/_, _^_, _-_, _<_, min}
+use Prim.Native.Nat.{ℕ, _+_, _*_, _/_, _%_, _^_, _-_, _<_, min}
 use native.Mathlib.Omega.{arith}
-use lib.Dec.{ltb}
+use lib.Dec.{eqb, ltb}
 use borrow.Author.Tests.{ltb-true}
 use Rattle.alf_spec.specs.declared.Sums.{Sums}
 use Rattle.alf_spec.specs.declared.Gradient.{Gradient}
 use Rattle.alf_spec.specs.Lists.{everyFrom, every}
-use Rattle.alf_spec.specs.Classes.{activityTable, larger, hv, dd, diagonal, mainGradient, otherGradient, strength, activity}
-use Rattle.alf_spec.proofs.Tests.{every-at}
+use Rattle.alf_spec.specs.Classes.{activityTable, transposeTable, gradient, larger, hv, dd, diagonal, mainGradient, otherGradient, strength, activity, transposeIdx, filtIdx, classOfSums}
+use Rattle.alf_spec.specs.Process.{classNumber}
+use Rattle.alf_spec.proofs.Tests.{cond-either, every-at}
 
 -- a gradient of sums below 2^18, with a direction below 4
 pub record Small (g : Gradient) : Type 0 where
@@ -54,3 +55,47 @@ module _ (s : Sums) where
   pub main-straight : diagonal (dd s) (hv s) ≡ false → (mainGradient s ≡ hv s) × (otherGradient s ≡ dd s)
   unfolding mainGradient otherGradient
   main-straight e = (rw e, rw e)
+
+-- ---- class numbers
+
+transpose-test : every (λ x. ltb x 4) transposeTable ≡ true
+unfolding everyFrom
+transpose-test = refl
+
+-- a direction is one of those given
+larger-direction : (a b x y : ℕ) → x < 4 → y < 4 → larger a b x y .direction < 4
+unfolding larger
+larger-direction a b x y = cond-either (λ g. g .direction < 4) (ltb b a) (gradient a b x) (gradient b a y)
+
+module _ (s : Sums) where
+  straight-direction : hv s .direction < 4
+  straight-direction = larger-direction (s .v) (s .h) 1 3 (omega arith) (omega arith)
+
+  slanted-direction : dd s .direction < 4
+  slanted-direction = larger-direction (s .d0) (s .d1) 0 2 (omega arith) (omega arith)
+
+  main-direction : mainGradient s .direction < 4
+  unfolding mainGradient
+  main-direction = cond-either (λ g. g .direction < 4) (diagonal (dd s) (hv s)) (dd s) (hv s) slanted-direction straight-direction
+
+  other-direction : otherGradient s .direction < 4
+  unfolding otherGradient
+  other-direction = cond-either (λ g. g .direction < 4) (diagonal (dd s) (hv s)) (hv s) (dd s) straight-direction slanted-direction
+
+  transpose-small : transposeIdx (mainGradient s) (otherGradient s) < 4
+  unfolding transposeIdx
+  transpose-small =
+      ltb-true _ 4
+      (every-at 0 0 (λ k x. ltb x 4) transposeTable transpose-test (mainGradient s .direction * 2 + otherGradient s .direction / 2)
+      (omega (arith, main-direction, other-direction)))
+
+filter-small : (level : ℕ) (main : Gradient) → level < 5 → filtIdx level main < 25
+unfolding filtIdx
+filter-small level main h =
+    cond-either (λ n. n < 25) (eqb (strength main) 0) level (level + (main .direction % 2 * 2 + strength main) * 5)
+    (omega arith) (omega (arith, strength-small main))
+
+-- the number of a class fits a byte
+pub class-small : (depth factor : ℕ) (s : Sums) → classNumber (classOfSums depth factor s) < 128
+unfolding classOfSums
+class-small depth factor s = omega (arith, transpose-small s, filter-small _ (mainGradient s) (activity-small depth factor (s .h + s .v)))

@@ -10,3 +10,8 @@ pub mod PieceFacts
 pub mod CopyReads
 pub mod CopyRows
 pub mod CopySamples
+pub mod CopyRooms
+pub mod PaintedRects
+pub mod PieceWalk
+pub mod CtbPieces
+pub mod CtbRegions

@@ -2,3 +2,4 @@
 pub mod Regions
 pub mod Pieces
 pub mod Copies
+pub mod CtbRegions

@@ -2,17 +2,19 @@
 use mathlib.Core.Path.{_≡_, refl}
 use mathlib.Core.Bool.{Bool, true, false, not, _&&_}
 use mathlib.Core.List.{List}
-use Prim.Native.Nat.{ℕ, suc, _≤_}
+use Prim.Native.Nat.{ℕ, suc, _^_, _≤_, _<_}
 use native.Mathlib.Nat.{suc-ne-zero}
-use lib.Dec.{eqb, leb}
-use lib.ListN.{length}
-use borrow.Author.Tests.{leb-true, eqb-true}
+use lib.Dec.{eqb, leb, ltb}
+use lib.ListN.{length, getD}
+use lib.Pow.{pow-pos}
+use borrow.Author.Tests.{ltb-true, leb-true, eqb-true, lt-ltb}
 use Rattle.alf_spec.specs.declared.Picture.{Picture}
 use Rattle.alf_spec.specs.Lists.{within, implies}
 use Rattle.alf_spec.specs.Input.{Layout, Operation, given, Input}
 use Rattle.alf_spec.specs.Geometry.{lumaPlane, chromaPlane, blockPlane, planeLength, ctbColumns, ctbRows, ctbTotal}
-use Rattle.alf_spec.specs.Faults.{pictureSizeValid, ctbSizeValid, bitDepthValid, chromaFormatValid, componentValid, layoutLengthsValid, filterLengthsValid, fixedLengthsValid, lengthsValid, regionLengthValid, virtualBoundariesValid, tilesValid, slicesValid, subpicturesValid, regionValid, unless, layoutFault, tablesFault, fault, isolationFault}
-use Rattle.alf_spec.proofs.Tests.{both, implied}
+use Rattle.alf_spec.specs.Process.{outputPlane}
+use Rattle.alf_spec.specs.Faults.{pictureSizeValid, ctbSizeValid, bitDepthValid, chromaFormatValid, componentValid, layoutLengthsValid, filterLengthsValid, fixedLengthsValid, lengthsValid, regionLengthValid, virtualBoundariesValid, tilesValid, slicesValid, subpicturesValid, regionValid, parametersValid, bankValid, fixedValid, samplesValid, unless, layoutFault, tablesFault, fault, isolationFault}
+use Rattle.alf_spec.proofs.Tests.{both, implied, every-entry}
 
 -- of a chain of tests that gives no number, the first passes, and what follows gives none
 passed : (test : Bool) (n rest : ℕ) → unless test (suc n) rest ≡ 0 → (test ≡ true) × (rest ≡ 0)
@@ -55,8 +57,9 @@ table-lengths l e =
       subpicAcross = eqb-true (length (l .subpicAcross)) 64 (subpics .1);
     }
 
--- what the operation's own tests of 4 and 5 say, too
-pub chain : (l : Layout) (component lengths : Bool) (rest : ℕ) → layoutFault l component lengths rest ≡ 0 → Accepted l × (component ≡ true) × (lengths ≡ true)
+-- what the operation's own tests of 4 and 5 say, too, and that what follows gives no number
+pub chain : (l : Layout) (component lengths : Bool) (rest : ℕ) → layoutFault l component lengths rest ≡ 0
+    → Accepted l × (component ≡ true) × (lengths ≡ true) × (rest ≡ 0)
 unfolding layoutFault
 chain l component lengths rest q =
     let p1 = passed (pictureSizeValid (l .picture)) 0 _ q in
@@ -82,11 +85,12 @@ chain l component lengths rest q =
       },
       four .1,
       five .1,
+      p9 .1,
     )
 
 -- an input that an operation accepts
 pub accepted : (op : Operation) (i : Input) → fault op i ≡ 0
-    → Accepted (i .layout) × (componentValid op (i .layout .picture) ≡ true) × (lengthsValid op i ≡ true)
+    → Accepted (i .layout) × (componentValid op (i .layout .picture) ≡ true) × (lengthsValid op i ≡ true) × (tablesFault op i ≡ 0)
 unfolding fault
 accepted op i q = chain (i .layout) (componentValid op (i .layout .picture)) (lengthsValid op i) (tablesFault op i) q
 
@@ -104,7 +108,13 @@ accepted-region l region q = eqb-true (length region) _ (chain l true (regionLen
 pub component-of : (p : Picture) (component : ℕ) → (not (eqb (p .«chroma_format») 0) && leb component 1) ≡ true → component ≤ 1
 component-of p component q = leb-true component 1 (both (not (eqb (p .«chroma_format») 0)) (leb component 1) q .1)
 
--- the planes that an operation is given have the picture's size
+-- a plane that passes the test of 12; past its end a read gives 0
+sample-below : (p : Picture) (plane : List ℕ) → samplesValid p plane ≡ true → (k : ℕ) → getD plane k 0 < 2 ^ p .«bit_depth»
+unfolding samplesValid
+sample-below p plane e k =
+    ltb-true _ _ (every-entry (λ n. ltb n (2 ^ p .«bit_depth»)) 0 (lt-ltb 0 (2 ^ p .«bit_depth») (pow-pos (p .«bit_depth»))) 0 plane e k)
+
+-- the planes that an operation is given, and its output, have the picture's size, and no sample is 2^B or more
 module _ (op : Operation) (i : Input) (ok : fault op i ≡ 0) where
   abbrev lumaLength : Bool
   lumaLength = eqb (length (i .luma)) (planeLength (lumaPlane (i .layout)))
@@ -112,16 +122,42 @@ module _ (op : Operation) (i : Input) (ok : fault op i ≡ 0) where
   abbrev chromaLength : Bool
   chromaLength = eqb (length (i .chroma)) (planeLength (chromaPlane (i .layout)))
 
-  lengths : (implies (given op .luma) lumaLength ≡ true) × (implies (given op .chroma) chromaLength ≡ true)
+  abbrev outputLength : Bool
+  outputLength = eqb (i .outputLength) (planeLength (outputPlane op (i .layout)))
+
+  lengths : (implies (given op .luma) lumaLength ≡ true) × (implies (given op .chroma) chromaLength ≡ true) × (outputLength ≡ true)
   unfolding lengthsValid
   lengths =
       let afterFilters = both (implies (given op .filters) (filterLengthsValid i)) _ (accepted op i ok .2) .1 in
       let afterFixed = both (implies (given op .fixed) (fixedLengthsValid i)) _ afterFilters .1 in
       let luma = both (implies (given op .luma) lumaLength) _ afterFixed in
-      (luma .0, both (implies (given op .chroma) chromaLength) _ (luma .1) .0)
+      let chroma = both (implies (given op .chroma) chromaLength) _ (luma .1) in
+      (luma .0, chroma .0, chroma .1)
 
   pub luma-length : given op .luma ≡ true → length (i .luma) ≡ planeLength (lumaPlane (i .layout))
   luma-length e = eqb-true (length (i .luma)) _ (implied (given op .luma) lumaLength (lengths .0) e)
 
   pub chroma-length : given op .chroma ≡ true → length (i .chroma) ≡ planeLength (chromaPlane (i .layout))
   chroma-length e = eqb-true (length (i .chroma)) _ (implied (given op .chroma) chromaLength (lengths .1) e)
+
+  pub output-length : i .outputLength ≡ planeLength (outputPlane op (i .layout))
+  output-length = eqb-true (i .outputLength) _ (lengths .2)
+
+  abbrev lumaSamples : Bool
+  lumaSamples = samplesValid (i .layout .picture) (i .luma)
+
+  abbrev chromaSamples : Bool
+  chromaSamples = samplesValid (i .layout .picture) (i .chroma)
+
+  samples : (implies (given op .luma) lumaSamples ≡ true) × (implies (given op .chroma) chromaSamples ≡ true)
+  unfolding tablesFault
+  samples =
+      let afterParameters = passed (implies (given op .filters) (parametersValid i)) 9 _ (accepted op i ok .3) .1 in
+      let afterBank = passed (implies (given op .filters) (bankValid i) && implies (given op .fixed) (fixedValid i)) 10 _ afterParameters .1 in
+      both (implies (given op .luma) lumaSamples) (implies (given op .chroma) chromaSamples) (passed _ 11 _ afterBank .0)
+
+  pub luma-samples : given op .luma ≡ true → (k : ℕ) → getD (i .luma) k 0 < 2 ^ i .layout .picture .«bit_depth»
+  luma-samples e = sample-below (i .layout .picture) (i .luma) (implied (given op .luma) lumaSamples (samples .0) e)
+
+  pub chroma-samples : given op .chroma ≡ true → (k : ℕ) → getD (i .chroma) k 0 < 2 ^ i .layout .picture .«bit_depth»
+  chroma-samples e = sample-below (i .layout .picture) (i .chroma) (implied (given op .chroma) chromaSamples (samples .1) e)

@@ -77,7 +77,7 @@ ctb-sizes p q =
         (λ n6. let e : n ≡ 7 = omega arith in rw e (omega arith)))
 
 -- an axis of a picture
-regular : (p : Picture) → ctbSizeValid p ≡ true → (size : ℕ) (list : List ℕ) (line : Bool) (ratio : ℕ)
+pub regular : (p : Picture) → ctbSizeValid p ≡ true → (size : ℕ) (list : List ℕ) (line : Bool) (ratio : ℕ)
     → sizeValid size ≡ true → virtualListValid size (ctbSize p) list ≡ true
     → Regular (record { size = size; ctb = ctbSize p; virtualBoundaries = list; hasLine = line; ratio = ratio })
 regular p c size list line ratio s v = record {

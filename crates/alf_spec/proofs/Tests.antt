@@ -82,6 +82,14 @@ at-every d k test [] f = refl
 at-every d k test (x ∷ xs) f =
     simp (rw add-zero at (f zero (zero-lt-suc (length xs))), at-every d (suc k) test xs (λ j h. rw (suc-add, ← add-suc) (f (suc j) (suc-le-suc h))))
 
+-- what every entry passes, and the default, each read passes
+pub every-entry : {A : Type 0} (test : A → Bool) (d : A) → test d ≡ true → (j : ℕ) (xs : List A) → everyFrom j (λ _ x. test x) xs ≡ true
+    → (k : ℕ) → test (getD xs k d) ≡ true
+unfolding everyFrom
+every-entry test d p j [] e k = p
+every-entry test d p j (x ∷ xs) e zero = both (test x) (everyFrom (suc j) (λ _ x. test x) xs) e .0
+every-entry test d p j (x ∷ xs) e (suc k) = every-entry test d p (suc j) xs (both (test x) (everyFrom (suc j) (λ _ x. test x) xs) e .1) k
+
 pub every-mem : (test : ℕ → Bool) (k : ℕ) (xs : List ℕ) → everyFrom k (λ _ x. test x) xs ≡ true → (v : ℕ) → List·Memᴰ v xs → test v ≡ true
 unfolding everyFrom
 every-mem test k [] q v m = absurd (List·Memᴰ·not-nil m)

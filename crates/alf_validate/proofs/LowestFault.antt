@@ -53,7 +53,7 @@ tables-fit i ok lengths =
 module _ (l : Layout) (component lengths : Bool) (a : Answer) (judged : number a ≡ layoutFault l component lengths 0)
     (told : a ≡ answer.Accepted) where
   passed : Accepted l × (component ≡ true) × (lengths ≡ true)
-  passed = chain l component lengths 0 (sym judged ∙ ap number told)
+  passed = let p = chain l component lengths 0 (sym judged ∙ ap number told) in (p .0, p .1, p .2)
 
   pub depth-of : bitDepthValid (l .picture) ≡ true
   depth-of = passed .0 .bitDepth

@@ -4,12 +4,13 @@ use mathlib.Core.Path.{_≡_, refl}
 use mathlib.Core.Bool.{true, false}
 use mathlib.Core.List.{List, [], _∷_, map}
 use Prim.Native.Nat.{ℕ}
-use lib.ListN.{replicate}
+use lib.ListN.{replicate, getD}
 use Rattle.alf_spec.specs.Input.{Layout, classes}
 use Rattle.alf_spec.specs.Lists.{allBelow, everyFrom, elem, tabulate}
 use Rattle.alf_spec.specs.Geometry.{ctbSize, planeOf, lumaPlane}
 use Rattle.alf_spec.specs.Boundary.{sliceOf, subpicOf, tileColumnOf, tileRowOf, tileDisables, sliceDisables, subpicDisables, columnDisabled, rowDisabled, cornerDisabled, find, lineClip, virtualClip, sideClip, clipPosition}
-use Rattle.alf_spec.specs.Padding.{columnClip, rowClip, pastCorner, paddedColumn, paddedRow}
+use Rattle.alf_spec.specs.Padding.{columnClip, rowClip, pastCorner, paddedColumn, paddedRow, read}
+use Rattle.alf_spec.specs.Classes.{classWindow}
 use Rattle.alf_spec.specs.Isolation.{openStep, columnStep, rowStep, diagonalStep, inside, staysInside, isolated, regionOf, sliceRegion, tileRegion, subpicRegion, outputInside}
 use Rattle.alf_spec.specs.Faults.{pictureSizeValid, ctbSizeValid, bitDepthValid, chromaFormatValid, layoutLengthsValid, virtualListValid, virtualBoundariesValid, followsAt, tileListValid, tilesValid, cornerAt, cornersInRow, cornersValid, slicesValid, subpicturesValid, regionLengthValid, regionValid, unless, layoutFault, isolationFault}
 use Rattle.alf_spec.proofs.Examples.{picture, layout}
@@ -53,6 +54,10 @@ stackedTiles =
 abbrev column : Layout → ℕ → ℕ → ℕ
 column l x p = paddedColumn l (lumaPlane l) x 0 p 0
 
+-- the column that stands at place k of the class window of the block at column 8, beside a virtual boundary there: each sample of row 0 is its column
+abbrev windowColumn : ℕ → ℕ
+windowColumn k = getD (classWindow (twoBlocks (8 ∷ [])) (0 ∷ 1 ∷ 2 ∷ 3 ∷ 4 ∷ 5 ∷ 6 ∷ 7 ∷ 8 ∷ 9 ∷ 10 ∷ 11 ∷ 12 ∷ 13 ∷ 14 ∷ 15 ∷ []) 8 0) k 0
+
 -- the slice map is rejected, or not; the subpicture map
 abbrev slices : List ℕ → ℕ
 slices m = isolationFault (four m (replicate 4 0)) (replicate 25 0)
@@ -64,6 +69,8 @@ pub record Borders : Type 0 where
   -- a virtual boundary at 8: 2 before the sample at 10, 4 after the sample at 4
   pub virtual-before : column (twoBlocks (8 ∷ [])) 10 7 ≡ 8
   pub virtual-after : column (twoBlocks (8 ∷ [])) 4 10 ≡ 7
+  -- the class window reads by the clip positions of its block's first sample: the offsets −3 to −1 are clamped to the boundary
+  pub window-before : map windowColumn (0 ∷ 1 ∷ 2 ∷ 3 ∷ 4 ∷ 9 ∷ []) ≡ 8 ∷ 8 ∷ 8 ∷ 8 ∷ 9 ∷ 14 ∷ []
   -- a disabled side at 32: the sample at 34 is the last with x < 3 in its CTB, the one at 28 the first with S − x < 5
   pub side-before : column closed 34 31 ≡ 32
   pub side-after : column closed 28 34 ≡ 31
@@ -81,10 +88,11 @@ pub record Borders : Type 0 where
   pub classes-inside : map (outputInside classes twoSubpictures (subpicRegion twoSubpictures 0)) (7 ∷ 8 ∷ []) ≡ true ∷ false ∷ []
 
 pub borders : Borders
-unfolding allBelow everyFrom elem tabulate ctbSize planeOf sliceOf subpicOf tileColumnOf tileRowOf tileDisables sliceDisables subpicDisables columnDisabled rowDisabled cornerDisabled find lineClip virtualClip sideClip clipPosition columnClip rowClip pastCorner paddedColumn paddedRow openStep columnStep rowStep diagonalStep inside staysInside isolated regionOf sliceRegion tileRegion subpicRegion outputInside pictureSizeValid ctbSizeValid bitDepthValid chromaFormatValid layoutLengthsValid virtualListValid virtualBoundariesValid followsAt tileListValid tilesValid cornerAt cornersInRow cornersValid slicesValid subpicturesValid regionLengthValid regionValid unless layoutFault isolationFault
+unfolding allBelow everyFrom elem tabulate ctbSize planeOf sliceOf subpicOf tileColumnOf tileRowOf tileDisables sliceDisables subpicDisables columnDisabled rowDisabled cornerDisabled find lineClip virtualClip sideClip clipPosition columnClip rowClip pastCorner paddedColumn paddedRow read classWindow openStep columnStep rowStep diagonalStep inside staysInside isolated regionOf sliceRegion tileRegion subpicRegion outputInside pictureSizeValid ctbSizeValid bitDepthValid chromaFormatValid layoutLengthsValid virtualListValid virtualBoundariesValid followsAt tileListValid tilesValid cornerAt cornersInRow cornersValid slicesValid subpicturesValid regionLengthValid regionValid unless layoutFault isolationFault
 borders = record {
   virtual-before = refl;
   virtual-after = refl;
+  window-before = refl;
   side-before = refl;
   side-after = refl;
   lower-right = refl;

@@ -1,0 +1,29 @@
+-- `alf_classify::blocks::block_class` meets its contract: the number fits a byte. Assumes nothing.
+use Prim.Native.Nat.{_<_}
+use borrow.Author.Needs.{needs}
+use Rattle.alf_spec.specs.Process.{classNumber}
+use Rattle.alf_math.proofs.Gradients.{class-small}
+use Rattle.alf_classify.specs.Windows.{columnSums}
+use Rattle.alf_classify.proofs.blocks.block_class.Statement.{statement}
+use Rattle.alf_classify.proofs.blocks.block_class.Tie as tie
+
+number-small : (c : tie.After-class-of-sums) → classNumber (c .class-of-sums .result) < 128
+number-small c = rw (c .class-of-sums .ensures) (class-small _ _ _)
+
+returns : tie.Need-returns
+unfolding columnSums
+returns c = cc
+
+pub block-class-spec : {M : Type 1} → statement M
+block-class-spec =
+    tie.close
+    (tie.spec
+    (λ c κs. search needs)
+    (λ c κs. search needs)
+    (λ c κs. search needs)
+    (λ c κs. search needs)
+    (λ c κs. search needs)
+    (λ c. search (needs, number-small (c .before)))
+    (λ c. search (needs, number-small (c .before .before)))
+    (λ c. search (needs, number-small (c .before .before)))
+    returns)

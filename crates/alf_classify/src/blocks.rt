@@ -1,0 +1,168 @@
+// The classes of the blocks of a piece.
+ghost use mathlib.Core.Path.{_≡_};
+ghost use Prim.Native.Nat.{ℕ, _+_, _-_, _*_, _/_, _%_, _≤_, _<_};
+ghost use lib.Dec.{leb};
+ghost use lib.ListN.{length, getD};
+ghost use Rattle.alf_spec.specs.Lists.{painted};
+ghost use Rattle.alf_spec.specs.Classes.{windowRows, classOfSums};
+ghost use Rattle.alf_spec.specs.Process.{classNumber};
+ghost use Rattle.alf_pieces.specs.Regions.{between, inRect};
+ghost use Rattle.alf_pieces.specs.Copies.{extent, copyLength};
+ghost use Rattle.alf_classify.specs.Windows.{area, SmallRuns, columnSums, columnClass, rowClass};
+ghost use Rattle.alf_classify.specs.Work.{ClassWork, BlockPiece, copyClassAt};
+use crate::differences::all_differences;
+use crate::sums::block_sum;
+use crate::sums::column_sums;
+use alf_boundary::clips::line_rule;
+use alf_math::direction::class_of_sums;
+use alf_math::windows::window_rows;
+use alf_pieces::pieces::Piece;
+use alf_spec::Grid;
+use alf_spec::Picture;
+use alf_spec::Sums;
+use alf_spec::WindowRows;
+
+// The class number of a block, from the sums of columns; those of its window begin at place `at`.
+fn block_class(
+    v: &[u16],
+    h: &[u16],
+    d0: &[u16],
+    d1: &[u16],
+    at: usize,
+    factor: u32,
+    depth: u32,
+) -> u8
+    requires { ⌜ (at + 6 < length (now v)) × (at + 6 < length (now h)) × (at + 6 < length (now d0)) × (at + 6 < length (now d1))
+        × (factor ≤ 3) × (8 ≤ depth) × (depth ≤ 12) ⌝ }
+    ensures { λ r. ⌜ r ≡ classNumber (classOfSums depth factor (columnSums (now (v .entry)) (now (h .entry)) (now (d0 .entry)) (now (d1 .entry)) at)) ⌝ }
+{
+    let sums = Sums {
+        v: block_sum(v, at),
+        h: block_sum(h, at),
+        d0: block_sum(d0, at),
+        d1: block_sum(d1, at),
+    };
+    let class = class_of_sums(sums, factor, depth);
+    (class.filter + 32 * class.transpose) as u8
+}
+
+// Of so many blocks in a row.
+fn class_run(
+    v: &[u16],
+    h: &[u16],
+    d0: &[u16],
+    d1: &[u16],
+    count: usize,
+    factor: u32,
+    depth: u32,
+    map: &mut [u8],
+    at: usize,
+)
+    requires { ⌜ (4 * count + 2 < length (now v)) × (4 * count + 2 < length (now h)) × (4 * count + 2 < length (now d0)) × (4 * count + 2 < length (now d1))
+        × (factor ≤ 3) × (8 ≤ depth) × (depth ≤ 12) × (at + count ≤ length (now map)) ⌝ }
+    ensures { λ _. ⌜ now (map .exit) ≡ painted (now (map .entry)) (between at count)
+        (columnClass (now (v .entry)) (now (h .entry)) (now (d0 .entry)) (now (d1 .entry)) factor depth at) ⌝ }
+{
+    let mut m = 0;
+    while m < count {
+        map[at + m] = block_class(v, h, d0, d1, 4 * m, factor, depth);
+        m += 1;
+    }
+}
+
+// Of a row of blocks of a piece, of which the differences that count begin at place `from`.
+fn class_row(
+    differences: &[u16],
+    from: usize,
+    pitch: usize,
+    count: usize,
+    window: WindowRows,
+    depth: u32,
+    map: &mut [u8],
+    at: usize,
+)
+    requires { ⌜ (count ≤ 32) × (1 ≤ pitch) × (3 ≤ window .count / 2) × (window .count / 2 ≤ 4) × (window .factor ≤ 3) × (8 ≤ depth) × (depth ≤ 12)
+        × (at + count ≤ length (now map))
+        × (3 * area + from + (4 * count + 3) + (window .count / 2 * (2 * pitch) + 1 - pitch) ≤ length (now differences))
+        × (SmallRuns (now differences) from (4 * count + 3) (window .count / 2 * (2 * pitch) + 1 - pitch)) ⌝ }
+    ensures { λ _. ⌜ now (map .exit) ≡ painted (now (map .entry)) (between at count)
+        (rowClass (now (differences .entry)) pitch window depth from at) ⌝ }
+{
+    let pairs = window.count / 2;
+    let n = 4 * count + 3;
+    let mut v: [u16; 136] = [0; 136];
+    let mut h: [u16; 136] = [0; 136];
+    let mut d0: [u16; 136] = [0; 136];
+    let mut d1: [u16; 136] = [0; 136];
+    column_sums(differences, from, pitch, pairs, n, &mut v);
+    column_sums(differences, 17956 + from, pitch, pairs, n, &mut h);
+    column_sums(differences, 35912 + from, pitch, pairs, n, &mut d0);
+    column_sums(differences, 53868 + from, pitch, pairs, n, &mut d1);
+    class_run(&v, &h, &d0, &d1, count, window.factor, depth, map, at);
+}
+
+// The samples of a piece along its axis.
+fn piece_extent(p: Piece) -> usize
+    requires { ⌜ p .start ≤ p .end ⌝ }
+    ensures { λ r. ⌜ r ≡ extent p ⌝ }
+{
+    (p.end - p.start) as usize
+}
+
+// The rows that count in the windows of the blocks whose first row is y.
+fn row_window(height: u32, ctb: u32, y: u32) -> WindowRows
+    requires { ⌜ (8 ≤ ctb) × (ctb ≤ 128) × (y ≤ 4096) ⌝ }
+    ensures { λ r. ⌜ r ≡ windowRows (leb (y / ctb * ctb + ctb) height) ctb (y % ctb) ⌝ }
+{
+    window_rows(line_rule(height, ctb, y), ctb, y % ctb)
+}
+
+// Where the differences that count begin, for the given row of blocks of a piece that begins at row `start`.
+fn window_place(start: u32, row: u32, first: u32, pitch: usize) -> usize
+    requires { ⌜ (row ≤ 1024) × (start ≤ 4 * row) × (first ≤ 3) × (pitch ≤ 134) ⌝ }
+    ensures { λ r. ⌜ r ≡ (4 * row - start + first) * pitch + 1 ⌝ }
+{
+    (4 * row - start + first) as usize * pitch + 1
+}
+
+// The place in the map of the block at luma column x, in the given row of blocks.
+fn map_place(width: u32, row: u32, x: u32) -> usize
+    requires { ⌜ (width ≤ 4096) × (row ≤ 1024) ⌝ }
+    ensures { λ r. ⌜ r ≡ row * (width / 4) + x / 4 ⌝ }
+{
+    row as usize * (width / 4) as usize + (x / 4) as usize
+}
+
+// The classes of the blocks of a piece, from its copy.
+pub(crate) fn piece_classes(
+    picture: Picture,
+    grid: Grid,
+    columns: Piece,
+    rows: Piece,
+    luma: &[u16],
+    copy: &[u16],
+    differences: &mut [u16],
+    map: &mut [u8],
+)
+    requires { ⌜ (ClassWork picture grid (now luma) (length (now copy)) (length (now differences)) (length (now map)))
+        × (BlockPiece (picture .width) columns) × (BlockPiece (picture .height) rows)
+        × ((k : ℕ) → k < copyLength columns rows → getD (now copy) k 0 < 4096) ⌝ }
+    ensures { λ _. ⌜ now (map .exit) ≡ painted (now (map .entry))
+        (inRect (picture .width / 4) (columns .start / 4) (columns .end / 4) (rows .start / 4) (rows .end / 4))
+        (copyClassAt picture (grid .ctb) (now (copy .entry)) columns rows) ⌝ }
+{
+    let pitch = piece_extent(columns) + 6;
+    let n = (piece_extent(rows) + 6) * pitch;
+    all_differences(copy, pitch, n, differences);
+    let count = piece_extent(columns) / 4;
+    let depth = picture.bit_depth as u32;
+    let end = rows.end / 4;
+    let mut row = rows.start / 4;
+    while row < end {
+        let window = row_window(picture.height, grid.ctb, 4 * row);
+        let from = window_place(rows.start, row, window.first, pitch);
+        let at = map_place(picture.width, row, columns.start);
+        class_row(differences, from, pitch, count, window, depth, map, at);
+        row += 1;
+    }
+}

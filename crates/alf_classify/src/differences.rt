@@ -1,0 +1,55 @@
+// The second differences of a piece's copy, in four directions: once for each sample, since the windows of the blocks overlap.
+ghost use mathlib.Core.Path.{_≡_};
+ghost use Prim.Native.Nat.{ℕ, _+_, _-_, _*_, _≤_, _<_};
+ghost use lib.ListN.{length, getD};
+ghost use Rattle.alf_spec.specs.Lists.{painted};
+ghost use Rattle.alf_pieces.specs.Regions.{between};
+ghost use Rattle.alf_classify.specs.Windows.{differenceAt, differenceFrom, area, Differences};
+use alf_math::windows::second_difference;
+
+// Of sample k of the copy and the two that lie `step` before and after it.
+fn difference(copy: &[u16], k: usize, step: usize) -> u16
+    requires { ⌜ (step ≤ k) × (k + step < length (now copy))
+        × (getD (now copy) k 0 < 4096) × (getD (now copy) (k - step) 0 < 4096) × (getD (now copy) (k + step) 0 < 4096) ⌝ }
+    ensures { λ r. ⌜ r ≡ differenceAt (now (copy .entry)) step k ⌝ }
+{
+    second_difference(copy[k], copy[k - step], copy[k + step])
+}
+
+// In one direction, of the first n samples but for `margin` of them at each end. One run over all rows: a difference across the copy's side is
+// of no use, and does no harm.
+fn second_differences(
+    copy: &[u16],
+    n: usize,
+    margin: usize,
+    step: usize,
+    differences: &mut [u16],
+    at: usize,
+)
+    requires { ⌜ (step ≤ margin) × (margin + margin ≤ n) × (n ≤ length (now copy)) × (at + n ≤ length (now differences))
+        × ((k : ℕ) → k < n → getD (now copy) k 0 < 4096) ⌝ }
+    ensures { λ _. ⌜ now (differences .exit) ≡ painted (now (differences .entry)) (between (at + margin) (n - (margin + margin)))
+        (differenceFrom (now (copy .entry)) step at) ⌝ }
+{
+    let first = at + margin;
+    let count = n - (margin + margin);
+    let mut x = 0;
+    while x < count {
+        differences[first + x] = difference(copy, margin + x, step);
+        x += 1;
+    }
+}
+
+// In the four directions.
+pub(crate) fn all_differences(copy: &[u16], pitch: usize, n: usize, differences: &mut [u16])
+    requires { ⌜ (1 ≤ pitch) × (2 * (pitch + 1) ≤ n) × (n ≤ area) × (area ≤ length (now copy)) × (4 * area ≤ length (now differences))
+        × ((k : ℕ) → k < n → getD (now copy) k 0 < 4096) ⌝ }
+    ensures { λ _. ⌜ (length (now (differences .exit)) ≡ length (now (differences .entry)))
+        × (Differences (now (copy .entry)) pitch n (now (differences .exit))) ⌝ }
+{
+    let margin = pitch + 1;
+    second_differences(copy, n, margin, pitch, differences, 0);
+    second_differences(copy, n, margin, 1, differences, 17956);
+    second_differences(copy, n, margin, pitch + 1, differences, 35912);
+    second_differences(copy, n, margin, pitch - 1, differences, 53868);
+}

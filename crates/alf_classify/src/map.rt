@@ -1,0 +1,238 @@
+// The class map of a picture: a CTB at a time, a piece of its rows at a time, a piece of its columns at a time.
+ghost use mathlib.Core.Path.{_≡_};
+ghost use mathlib.Core.Bool.{true};
+ghost use Prim.Native.Nat.{_+_, _*_, _/_, _≤_, _<_, min};
+ghost use lib.ListN.{length};
+ghost use Rattle.alf_spec.specs.Lists.{painted};
+ghost use Rattle.alf_spec.specs.Input.{Layout, layoutOf, classes, classesInput};
+ghost use Rattle.alf_spec.specs.Geometry.{ctbSize, lumaPlane, classPlane};
+ghost use Rattle.alf_spec.specs.Boundary.{columnDisabled, rowDisabled};
+ghost use Rattle.alf_spec.specs.Process.{classAt, classMap};
+ghost use Rattle.alf_spec.specs.Faults.{virtualListValid, fault};
+ghost use Rattle.alf_spec.specs.declared.Ctb.{Ctb};
+ghost use Rattle.alf_pieces.specs.Regions.{inRect};
+ghost use Rattle.alf_pieces.specs.Pieces.{PieceOf, CtbOf};
+ghost use Rattle.alf_math.specs.Grids.{GridOf};
+ghost use Rattle.alf_classify.specs.Windows.{area};
+ghost use Rattle.alf_pieces.specs.CtbRegions.{ofCtb};
+ghost use Rattle.alf_classify.specs.Work.{ClassWork, BlockPiece};
+use crate::blocks::piece_classes;
+use alf_boundary::padding::least;
+use alf_boundary::sides::sides_of;
+use alf_math::grid::grid;
+use alf_pieces::copies::copy_piece;
+use alf_pieces::pieces::Piece;
+use alf_pieces::pieces::column_piece;
+use alf_pieces::pieces::row_piece;
+use alf_spec::Ctb;
+use alf_spec::Grid;
+use alf_spec::Picture;
+use alf_spec::Sides;
+
+// A copy has at most 134 by 134 samples.
+const AREA: usize = 17956;
+
+// The classes of a piece of a CTB with these sides.
+fn class_piece(
+    picture: Picture,
+    grid: Grid,
+    sides: Sides,
+    columns: Piece,
+    rows: Piece,
+    luma: &[u16],
+    copy: &mut [u16],
+    differences: &mut [u16],
+    map: &mut [u8],
+)
+    requires { ⌜ (ClassWork picture grid (now luma) (length (now copy)) (length (now differences)) (length (now map)))
+        × (BlockPiece (picture .width) columns) × (BlockPiece (picture .height) rows) ⌝ }
+    ensures { λ _. ⌜ ((l : Layout) (c : Ctb) → CtbOf l picture c sides
+        → PieceOf (lumaPlane l .columns) (columnDisabled l c) (c .column) columns → PieceOf (lumaPlane l .rows) (rowDisabled l c) (c .row) rows
+        → now (map .exit) ≡ painted (now (map .entry))
+        (inRect (picture .width / 4) (columns .start / 4) (columns .end / 4) (rows .start / 4) (rows .end / 4)) (classAt l (now (luma .entry)))) ⌝ }
+{
+    copy_piece(luma, picture.width as usize, columns, rows, sides, copy);
+    piece_classes(picture, grid, columns, rows, luma, copy, differences, map);
+}
+
+// The classes of the CTB's blocks in a piece of its rows.
+fn class_strip(
+    picture: Picture,
+    grid: Grid,
+    virtual_columns: &[u16],
+    ctb: Ctb,
+    sides: Sides,
+    rows: Piece,
+    luma: &[u16],
+    copy: &mut [u16],
+    differences: &mut [u16],
+    map: &mut [u8],
+)
+    requires { ⌜ (ClassWork picture grid (now luma) (length (now copy)) (length (now differences)) (length (now map)))
+        × (virtualListValid (picture .width) (ctbSize picture) (now «virtual_columns») ≡ true)
+        × (BlockPiece (picture .height) rows) × (ctb .column * grid .ctb < picture .width) × (ctb .column ≤ 128) ⌝ }
+    ensures { λ _. ⌜ ((l : Layout) → CtbOf l picture ctb sides → l .virtualColumns ≡ now («virtual_columns» .entry)
+        → PieceOf (lumaPlane l .rows) (rowDisabled l ctb) (ctb .row) rows
+        → now (map .exit) ≡ painted (now (map .entry))
+        (inRect (picture .width / 4) (ctb .column * grid .ctb / 4) (min (ctb .column * grid .ctb + grid .ctb) (picture .width) / 4)
+        (rows .start / 4) (rows .end / 4)) (classAt l (now (luma .entry)))) ⌝ }
+{
+    let left = ctb.column * grid.ctb;
+    let right = least(left + grid.ctb, picture.width);
+    let mut x = left;
+    while x < right {
+        let columns = column_piece(picture, grid, virtual_columns, 1, sides, ctb.column, x);
+        class_piece(
+            picture,
+            grid,
+            sides,
+            columns,
+            rows,
+            luma,
+            copy,
+            differences,
+            map,
+        );
+        x = columns.end;
+    }
+}
+
+// The classes of the CTB's blocks.
+fn class_ctb(
+    picture: Picture,
+    grid: Grid,
+    virtual_columns: &[u16],
+    virtual_rows: &[u16],
+    ctb: Ctb,
+    sides: Sides,
+    luma: &[u16],
+    copy: &mut [u16],
+    differences: &mut [u16],
+    map: &mut [u8],
+)
+    requires { ⌜ (ClassWork picture grid (now luma) (length (now copy)) (length (now differences)) (length (now map)))
+        × (virtualListValid (picture .width) (ctbSize picture) (now «virtual_columns») ≡ true)
+        × (virtualListValid (picture .height) (ctbSize picture) (now «virtual_rows») ≡ true)
+        × (ctb .column * grid .ctb < picture .width) × (ctb .column ≤ 128) × (ctb .row * grid .ctb < picture .height) × (ctb .row ≤ 128) ⌝ }
+    ensures { λ _. ⌜ ((l : Layout) → CtbOf l picture ctb sides → l .virtualColumns ≡ now («virtual_columns» .entry)
+        → l .virtualRows ≡ now («virtual_rows» .entry) → now (map .exit) ≡ painted (now (map .entry))
+        (inRect (picture .width / 4) (ctb .column * grid .ctb / 4) (min (ctb .column * grid .ctb + grid .ctb) (picture .width) / 4)
+        (ctb .row * grid .ctb / 4) (min (ctb .row * grid .ctb + grid .ctb) (picture .height) / 4)) (classAt l (now (luma .entry)))) ⌝ }
+{
+    let top = ctb.row * grid.ctb;
+    let bottom = least(top + grid.ctb, picture.height);
+    let mut y = top;
+    while y < bottom {
+        let rows = row_piece(picture, grid, virtual_rows, 1, sides, ctb.row, y);
+        class_strip(
+            picture,
+            grid,
+            virtual_columns,
+            ctb,
+            sides,
+            rows,
+            luma,
+            copy,
+            differences,
+            map,
+        );
+        y = rows.end;
+    }
+}
+
+// The classes of the blocks of the CTB at address k.
+fn class_address(
+    picture: Picture,
+    grid: Grid,
+    virtual_columns: &[u16],
+    virtual_rows: &[u16],
+    tile_columns: &[u8],
+    tile_rows: &[u8],
+    slice_map: &[u8],
+    subpic_map: &[u8],
+    subpic_across: &[u8],
+    k: u32,
+    luma: &[u16],
+    copy: &mut [u16],
+    differences: &mut [u16],
+    map: &mut [u8],
+)
+    requires { ⌜ (GridOf picture grid) × (k < grid .columns * grid .rows) × (area ≤ length (now copy)) × (4 * area ≤ length (now differences))
+        × (fault classes (classesInput (layoutOf picture (now «virtual_columns») (now «virtual_rows») (now «tile_columns») (now «tile_rows»)
+        (now «slice_map») (now «subpic_map») (now «subpic_across»)) (now luma) (length (now map))) ≡ 0) ⌝ }
+    ensures { λ _. ⌜ (let l = layoutOf picture (now («virtual_columns» .entry)) (now («virtual_rows» .entry)) (now («tile_columns» .entry))
+        (now («tile_rows» .entry)) (now («slice_map» .entry)) (now («subpic_map» .entry)) (now («subpic_across» .entry)) in
+        now (map .exit) ≡ painted (now (map .entry)) (ofCtb l (classPlane l) k) (classAt l (now (luma .entry)))) ⌝ }
+{
+    let ctb = Ctb {
+        column: k % grid.columns,
+        row: k / grid.columns,
+    };
+    let sides = sides_of(
+        picture,
+        grid,
+        tile_columns,
+        tile_rows,
+        slice_map,
+        subpic_map,
+        subpic_across,
+        ctb,
+    );
+    class_ctb(
+        picture,
+        grid,
+        virtual_columns,
+        virtual_rows,
+        ctb,
+        sides,
+        luma,
+        copy,
+        differences,
+        map,
+    );
+}
+
+// The class map of an accepted picture.
+pub fn class_map(
+    picture: Picture,
+    virtual_columns: &[u16],
+    virtual_rows: &[u16],
+    tile_columns: &[u8],
+    tile_rows: &[u8],
+    slice_map: &[u8],
+    subpic_map: &[u8],
+    subpic_across: &[u8],
+    luma: &[u16],
+    map: &mut [u8],
+)
+    requires { ⌜ fault classes (classesInput (layoutOf picture (now «virtual_columns») (now «virtual_rows») (now «tile_columns») (now «tile_rows»)
+        (now «slice_map») (now «subpic_map») (now «subpic_across»)) (now luma) (length (now map))) ≡ 0 ⌝ }
+    ensures { λ _. ⌜ now (map .exit) ≡ classMap (layoutOf picture (now («virtual_columns» .entry)) (now («virtual_rows» .entry))
+        (now («tile_columns» .entry)) (now («tile_rows» .entry)) (now («slice_map» .entry)) (now («subpic_map» .entry))
+        (now («subpic_across» .entry))) (now (luma .entry)) ⌝ }
+{
+    let grid = grid(picture);
+    let total = grid.columns * grid.rows;
+    let mut copy: [u16; AREA] = [0; AREA];
+    let mut differences: [u16; 4 * AREA] = [0; 4 * AREA];
+    let mut k = 0;
+    while k < total {
+        class_address(
+            picture,
+            grid,
+            virtual_columns,
+            virtual_rows,
+            tile_columns,
+            tile_rows,
+            slice_map,
+            subpic_map,
+            subpic_across,
+            k,
+            luma,
+            &mut copy,
+            &mut differences,
+            map,
+        );
+        k += 1;
+    }
+}

@@ -1,0 +1,137 @@
+-- The samples of a CTB, of every plane: they are a rectangle, and the CTBs of the picture, one after the other, are the whole plane. Assumes nothing.
+use mathlib.Core.Path.{_≡_, sym, ap, _∙_}
+use mathlib.Core.Bool.{Bool, true, false, _||_}
+use mathlib.Core.Logic.{inl, inr, ⊎-elim}
+use Prim.Native.Nat.{ℕ, suc, _+_, _*_, _/_, _%_, _≤_, _<_, min}
+use native.Mathlib.Nat.{mul-le-mul-right, le-of-suc-le-suc, div-add-mod'}
+use native.Mathlib.Omega.{arith}
+use lib.Dec.{eqb, ltb}
+use borrow.Author.Tests.{ltb-true, eqb-true, lt-ltb, eq-eqb}
+use Rattle.alf_spec.specs.declared.Ctb.{Ctb}
+use Rattle.alf_spec.specs.declared.Grid.{Grid}
+use Rattle.alf_spec.specs.Input.{Layout}
+use Rattle.alf_spec.specs.Geometry.{Axis, Plane, samples, lumaPosition, planeOf, planeLength, columnOf, rowOf, ctbAt, address, ctbColumns, ctbRows, ctbTotal}
+use Rattle.alf_spec.proofs.Tests.{same-test}
+use Rattle.alf_spec.proofs.Planes.{place-column, place-row, column-below, row-below, address-below}
+use Rattle.alf_spec.proofs.Accepted.{Accepted}
+use Rattle.alf_spec.proofs.Axes.{Regular, lower, upper, ctb-of, not-gt, regular-columns, regular-rows}
+use Rattle.alf_spec.proofs.IsolatedRegions.Ratios.{own-le, lt-own}
+use Rattle.alf_spec.proofs.IsolatedRegions.Steps.{ctb-below}
+use Rattle.alf_math.specs.Grids.{GridOf}
+use Rattle.alf_math.proofs.Grids.{grid-columns}
+use Rattle.alf_pieces.specs.Regions.{inRect}
+use Rattle.alf_pieces.specs.Pieces.{ctbLimit}
+use Rattle.alf_pieces.proofs.Regions.{one-of, never, order, in-rect, rect-facts}
+use Rattle.alf_pieces.specs.CtbRegions.{addressAt, ofCtb, beforeCtb}
+
+-- a multiple of 8 is a whole number of the plane's own samples: ratios of 1, 2, 4 and 8
+abbrev pub Whole : ℕ → Type 0
+Whole ratio = (b : ℕ) → b % 8 ≡ 0 → b / ratio * ratio ≡ b
+
+-- ---- along one axis
+
+module _ (a : Axis) (ok : Regular a) (q : ℕ) where
+  side8 : q * a .ctb % 8 ≡ 0
+  side8 =
+      let whole : 8 * (a .ctb / 8) ≡ a .ctb = omega (arith, ok .ctb8) in
+      omega (arith, ap (λ (n : ℕ). q * n) whole)
+
+  limit8 : ctbLimit a q % 8 ≡ 0
+  limit8 = omega (arith, side8, ok .ctb8, ok .size8)
+
+  -- the samples of the CTB at place q
+  module _ (whole : Whole (a .ratio)) (x : ℕ) where
+    pub ctb-range : x < samples a → lumaPosition a x / a .ctb ≡ q → (q * a .ctb / a .ratio ≤ x) × (x < ctbLimit a q / a .ratio)
+    ctb-range h e =
+        let low : q * a .ctb ≤ lumaPosition a x = rw e at (lower a (lumaPosition a x)) in
+        let high : lumaPosition a x < q * a .ctb + a .ctb = rw e at (upper a ok (lumaPosition a x)) in
+        let inside : lumaPosition a x < a .size = lt-own (a .ratio) (a .size) x h in (
+          own-le (a .ratio) (q * a .ctb) x low,
+          not-gt (λ (l : ctbLimit a q / a .ratio < suc x).
+              let past : ctbLimit a q / a .ratio * a .ratio ≤ lumaPosition a x = mul-le-mul-right (a .ratio) (le-of-suc-le-suc l) in
+              absurd (omega (arith, whole (ctbLimit a q) limit8))),
+        )
+
+    pub range-ctb : (q * a .ctb / a .ratio ≤ x) → (x < ctbLimit a q / a .ratio) → lumaPosition a x / a .ctb ≡ q
+    range-ctb low high =
+        let from : q * a .ctb / a .ratio * a .ratio ≤ lumaPosition a x = mul-le-mul-right (a .ratio) low in
+        let upto = lt-own (a .ratio) (ctbLimit a q) x high in
+        ctb-of a q (lumaPosition a x) (omega (arith, whole (q * a .ctb) side8)) (omega arith)
+
+-- ---- in a plane with this ratio to luma
+
+module _ (l : Layout) (ok : Accepted l) (ratio : ℕ) (whole : Whole ratio) where
+  abbrev plane : Plane
+  plane = planeOf l ratio ratio
+
+  -- the sample at index i
+  module _ (i : ℕ) (h : i < planeLength plane) where
+    column-in : lumaPosition (plane .columns) (columnOf plane i) / plane .columns .ctb < ctbColumns l
+    unfolding planeOf
+    column-in = ctb-below (plane .columns) (regular-columns l ok ratio ratio) _ (lt-own ratio _ _ (column-below plane i h))
+
+    row-in : lumaPosition (plane .rows) (rowOf plane i) / plane .rows .ctb < ctbRows l
+    unfolding planeOf
+    row-in = ctb-below (plane .rows) (regular-rows l ok ratio ratio) _ (lt-own ratio _ _ (row-below plane i h))
+
+    -- it lies in one of the picture's CTBs
+    pub every-ctb : beforeCtb l plane (ctbTotal l) i ≡ true
+    unfolding beforeCtb
+    every-ctb = lt-ltb _ _ (address-below l (ctbAt plane (columnOf plane i) (rowOf plane i)) column-in row-in)
+
+    -- the CTB at address k is a rectangle
+    module _ (k : ℕ) where
+      abbrev own : Ctb
+      own = ctbAt plane (columnOf plane i) (rowOf plane i)
+
+      abbrev rectangle : ℕ → Bool
+      rectangle =
+          inRect (samples (plane .columns))
+          (k % ctbColumns l * plane .columns .ctb / ratio) (ctbLimit (plane .columns) (k % ctbColumns l) / ratio)
+          (k / ctbColumns l * plane .rows .ctb / ratio) (ctbLimit (plane .rows) (k / ctbColumns l) / ratio)
+
+      to-rectangle : address l own ≡ k → rectangle i ≡ true
+      unfolding planeOf
+      to-rectangle e =
+          let column : own .column ≡ k % ctbColumns l =
+          sym (place-column (ctbColumns l) (ctbRows l) (own .column) (own .row) column-in row-in) ∙ ap (λ (n : ℕ). n % ctbColumns l) e in
+          let row : own .row ≡ k / ctbColumns l =
+          sym (place-row (ctbColumns l) (ctbRows l) (own .column) (own .row) column-in row-in) ∙ ap (λ (n : ℕ). n / ctbColumns l) e in
+          let across = ctb-range (plane .columns) (regular-columns l ok ratio ratio) _ whole _ (column-below plane i h) column in
+          let down = ctb-range (plane .rows) (regular-rows l ok ratio ratio) _ whole _ (row-below plane i h) row in
+          in-rect _ _ _ _ _ i (across .0, across .1, down .0, down .1)
+
+      from-rectangle : rectangle i ≡ true → address l own ≡ k
+      unfolding planeOf
+      from-rectangle t =
+          let f = rect-facts _ _ _ _ _ i t in
+          let column : own .column ≡ k % ctbColumns l =
+          range-ctb (plane .columns) (regular-columns l ok ratio ratio) _ whole _ (f .0) (f .1) in
+          let row : own .row ≡ k / ctbColumns l = range-ctb (plane .rows) (regular-rows l ok ratio ratio) _ whole _ (f .2) (f .3) in
+          rw (column, row) (div-add-mod' k (ctbColumns l))
+
+      pub ctb-rectangle : ofCtb l plane k i ≡ rectangle i
+      unfolding ofCtb
+      ctb-rectangle = same-test (eqb (address l own) k) (rectangle i) (λ t. to-rectangle (eqb-true _ k t)) (λ t. eq-eqb _ k (from-rectangle t))
+
+      -- by the numbers of the picture's grid, as code has it
+      pub grid-rectangle : (g : Grid) → GridOf (l .picture) g
+          → ofCtb l plane k i ≡ inRect (l .picture .width / ratio)
+          (k % g .columns * g .ctb / ratio) (min (k % g .columns * g .ctb + g .ctb) (l .picture .width) / ratio)
+          (k / g .columns * g .ctb / ratio) (min (k / g .columns * g .ctb + g .ctb) (l .picture .height) / ratio) i
+      unfolding planeOf
+      grid-rectangle g grid = rw (grid-columns l g grid, grid .ctb) ctb-rectangle
+
+-- the CTBs before the first, and before the next
+pub no-ctb : (l : Layout) (g : Plane) (i : ℕ) → beforeCtb l g 0 i ≡ false
+unfolding beforeCtb
+no-ctb l g i = never (ltb (addressAt l g i) 0) (λ t. let h = ltb-true (addressAt l g i) 0 t in omega arith)
+
+pub next-ctb : (l : Layout) (g : Plane) (k i : ℕ) → beforeCtb l g (k + 1) i ≡ (beforeCtb l g k i || ofCtb l g k i)
+unfolding beforeCtb ofCtb
+next-ctb l g k i =
+    let at = addressAt l g i in
+    one-of (ltb at (k + 1)) (ltb at k) (eqb at k)
+    (λ t. let h = ltb-true at k t in lt-ltb at (k + 1) (omega arith))
+    (λ t. let e = eqb-true at k t in lt-ltb at (k + 1) (omega arith))
+    (λ t. let h = ltb-true at (k + 1) t in ⊎-elim (λ b. inl (lt-ltb at k b)) (λ b. inr (eq-eqb at k (omega arith))) (order at k))

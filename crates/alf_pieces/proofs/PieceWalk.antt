@@ -1,0 +1,82 @@
+-- A loop over the pieces of a CTB along one axis, for every plane: where it stands, and how each piece carries it on. Assumes nothing.
+use mathlib.Core.Path.{_≡_, refl, ap, subst, _∙_}
+use mathlib.Core.Bool.{Bool, true, false}
+use mathlib.Core.List.{List}
+use Prim.Native.Nat.{ℕ, _-_, _*_, _/_, _≤_, _<_}
+use native.Mathlib.Nat.{le-antisymm, mul-le-mul-right}
+use native.Mathlib.Omega.{arith}
+use Rattle.alf_spec.specs.declared.Picture.{Picture}
+use Rattle.alf_spec.specs.declared.Grid.{Grid}
+use Rattle.alf_spec.specs.Geometry.{Side, before, after, Axis, ctbSize, lumaPosition}
+use Rattle.alf_spec.specs.Faults.{sizeValid, pictureSizeValid, ctbSizeValid, virtualListValid}
+use Rattle.alf_spec.proofs.Tests.{both}
+use Rattle.alf_spec.proofs.Axes.{Regular, regular}
+use Rattle.alf_spec.proofs.IsolatedRegions.Ratios.{Ratio, whole, half, lt-own}
+use Rattle.alf_math.specs.Grids.{GridOf}
+use Rattle.alf_boundary.specs.Clips.{axisOf}
+use Rattle.alf_pieces.specs.declared.pieces.Piece.{Piece}
+use Rattle.alf_pieces.specs.Pieces.{ctbLimit, cutAt, pieceAt, Begins, at-side, PieceOf}
+use Rattle.alf_pieces.proofs.PieceFacts.{Facts, piece-facts}
+
+-- ---- the loop
+
+-- the loop over the pieces of the CTB at place q stands at the plane's own sample x: where a piece begins, or where the CTB ends
+pub record Walk (a : Axis) (q x : ℕ) : Type 0 where
+  pub from : q * a .ctb ≤ lumaPosition a x
+  pub upto : lumaPosition a x ≤ ctbLimit a q
+  pub begins : lumaPosition a x < ctbLimit a q → Begins a q (lumaPosition a x)
+
+module _ {a : Axis} {q : ℕ} where
+  pub walk-start : {x : ℕ} → lumaPosition a x ≡ q * a .ctb → q * a .ctb < a .size → Walk a q x
+  walk-start e h = record { from = omega arith; upto = omega arith; begins = λ _. at-side e }
+
+  -- where a piece ends
+  pub walk-next : {disabled : Side → Bool} {p : Piece} → Facts a disabled q p → Walk a q (p .end)
+  walk-next {p = p} f =
+      let on : lumaPosition a (p .start) ≤ lumaPosition a (p .end) = mul-le-mul-right (a .ratio) (omega (arith, f .numbers .filled)) in
+      record { from = omega (arith, f .from); upto = f .upto; begins = f .next }
+
+-- where the CTB ends, the loop does
+pub walk-done : {a : Axis} {q x : ℕ} → Ratio (a .ratio) → Walk a q x → ctbLimit a q / a .ratio ≤ x → x ≡ ctbLimit a q / a .ratio
+walk-done {a} {q} {x} ratio w h = le-antisymm (own (a .ratio) ratio (ctbLimit a q) (w .upto)) h
+  where
+    own : (r : ℕ) → Ratio r → (b : ℕ) → x * r ≤ b → x ≤ b / r
+    own _ whole b l = omega arith
+    own _ half b l = omega arith
+
+-- the loop's measure
+pub less-by : {end x start next : ℕ} → x < end → start ≡ x → start < next → end - next < end - x
+less-by h e l = omega arith
+
+-- what a turn of the loop finds: the piece p that begins at x
+pub record Turn (a : Axis) (disabled : Side → Bool) (q x : ℕ) (p : Piece) : Type 0 where
+  pub start : p .start ≡ x
+  pub piece : PieceOf a disabled q p
+  pub facts : Facts a disabled q p
+
+pub turn : {a : Axis} {disabled : Side → Bool} {q x : ℕ} {p : Piece} → Regular a → Ratio (a .ratio) → a .ctb ≤ 128
+    → Walk a q x → x < ctbLimit a q / a .ratio → p ≡ pieceAt a disabled q x → Turn a disabled q x p
+unfolding pieceAt
+turn {a} {disabled} {q} {x} {p} ok ratio small w h e =
+    let piece : PieceOf a disabled q p =
+    rw e record { from = w .from; upto = lt-own (a .ratio) (ctbLimit a q) x h; begins = w .begins (lt-own (a .ratio) (ctbLimit a q) x h); is = refl } in
+    record { start = ap (λ (p : Piece). p .start) e; piece = piece; facts = piece-facts a ok ratio small disabled q p piece }
+
+-- ---- its axis
+
+-- the axes of an accepted picture, as code has them
+module _ {p : Picture} {g : Grid} (grid : GridOf p g) (sizes : pictureSizeValid p ≡ true) (log2 : ctbSizeValid p ≡ true) {list : List ℕ} where
+  pub columns-regular : virtualListValid (p .width) (ctbSize p) list ≡ true → (ratio : ℕ) → Regular (axisOf (p .width) (g .ctb) list false ratio)
+  unfolding pictureSizeValid
+  columns-regular valid ratio = rw (grid .ctb) (regular p log2 (p .width) list false ratio (both (sizeValid (p .width)) _ sizes .0) valid)
+
+  pub rows-regular : virtualListValid (p .height) (ctbSize p) list ≡ true → (ratio : ℕ) → Regular (axisOf (p .height) (g .ctb) list true ratio)
+  unfolding pictureSizeValid
+  rows-regular valid ratio = rw (grid .ctb) (regular p log2 (p .height) list true ratio (both (sizeValid (p .width)) _ sizes .1) valid)
+
+-- the same piece, of an axis and sides given otherwise
+pub same-piece : {a b : Axis} {disabled given : Side → Bool} {q : ℕ} {p : Piece} → a ≡ b → given before ≡ disabled before → given after ≡ disabled after
+    → PieceOf a given q p → PieceOf b disabled q p
+unfolding pieceAt cutAt
+same-piece {disabled = disabled} {q = q} {p = p} e first last h = subst (λ a. PieceOf a disabled q p) e
+    (record { from = h .from; upto = h .upto; begins = h .begins; is = h .is ∙ rw (first, last) })
