@@ -1,16 +1,17 @@
 -- Sums over pairs of rows and over columns, written out as code adds them. Assumes nothing.
-use mathlib.Core.Path.{_≡_, refl, sym, _∙_, ap, ap₂}
-use mathlib.Core.Bool.{Bool, true, false, cond}
+use mathlib.Core.Path.{_≡_, sym, _∙_, ap, ap₂}
 use mathlib.Core.List.{List}
-use Prim.Native.Nat.{ℕ, zero, suc, _+_, _*_, _≤_, _<_}
+use Prim.Native.Nat.{ℕ, _+_, _*_, _≤_, _<_}
 use native.Mathlib.Nat.{add-zero, zero-add}
 use native.Mathlib.Omega.{arith}
 use lib.ListN.{length, getD}
 use Rattle.alf_spec.specs.Lists.{sumBelow}
+use Rattle.alf_spec.proofs.Lists.{sum-same}
 use Rattle.alf_pieces.specs.Regions.{between}
-use Rattle.alf_pieces.proofs.Painted.{Paint, paint-in, paint-out}
+use Rattle.alf_pieces.specs.Copies.{area}
+use Rattle.alf_pieces.proofs.Painted.{Paint, paint-in, paint-again}
 use Rattle.alf_pieces.proofs.Regions.{in-run}
-use Rattle.alf_classify.specs.Windows.{area, pairAt, columnSum, blockSum, SmallRun, columnFrom, pairAdded, fourColumns, columnSums, blockSums}
+use Rattle.alf_classify.specs.Windows.{pairAt, columnSum, blockSum, SmallRun, columnFrom, pairAdded, fourColumns, columnSums, blockSums}
 
 module _ (d : List ℕ) (pitch k : ℕ) where
   pub three-pairs : columnSum d pitch 3 k ≡ pairAt d pitch k + pairAt d pitch (k + 2 * pitch) + pairAt d pitch (k + 4 * pitch)
@@ -36,22 +37,13 @@ module _ (d : List ℕ) (pitch k : ℕ) where
       ))
 
   -- a pair more
-  pub fourth-pair : columnSum d pitch 4 k ≡ columnSum d pitch 3 k + pairAt d pitch (k + 6 * pitch)
+  fourth-pair : columnSum d pitch 4 k ≡ columnSum d pitch 3 k + pairAt d pitch (k + 6 * pitch)
   unfolding columnSum sumBelow
   fourth-pair = let six : k + 3 * (2 * pitch) ≡ k + 6 * pitch = omega arith in simp six
 
 pub four-columns : (sums : List ℕ) (at : ℕ) → fourColumns sums at ≡ getD sums at 0 + getD sums (at + 2) 0 + getD sums (at + 4) 0 + getD sums (at + 6) 0
 unfolding fourColumns sumBelow
 four-columns sums at = simp (add-zero, zero-add)
-
--- the same part written once more, by what stands there
-pub paint-again : {xs ys zs : List ℕ} {p : ℕ → Bool} {v w u : ℕ → ℕ} → Paint xs p v ys → Paint ys p w zs
-    → ((k : ℕ) → k < length xs → p k ≡ true → w k ≡ u k) → Paint xs p u zs
-paint-again {xs} {ys} {zs} {p} {v} {w} {u} P Q agree = record { len = Q .len ∙ P .len; at = λ k h. Q .at k (omega (arith, P .len)) ∙ pick k h (p k) refl }
-  where
-    pick : (k : ℕ) → k < length xs → (b : Bool) → p k ≡ b → cond b (w k) (getD ys k 0) ≡ cond b (u k) (getD xs k 0)
-    pick k h true e = agree k h e
-    pick k h false e = paint-out P k h e
 
 -- the fourth pair added to the sums of three, of n columns
 pub four-pairs : (d : List ℕ) (pitch from n : ℕ) {xs ys zs : List ℕ} → n ≤ length xs → Paint xs (between 0 n) (columnFrom d pitch 3 from) ys
@@ -62,11 +54,6 @@ four-pairs d pitch from n room P Q =
     ap₂ (λ (a b : ℕ). a + b) (paint-in P x h t) (ap (λ (k : ℕ). pairAt d pitch k) place) ∙ sym (fourth-pair d pitch (from + x)))
 
 -- ---- blocks
-
-pub sum-same : (n : ℕ) (f g : ℕ → ℕ) → ((k : ℕ) → k < n → f k ≡ g k) → sumBelow n f ≡ sumBelow n g
-unfolding sumBelow
-sum-same zero f g e = refl
-sum-same (suc n) f g e = ap₂ (λ (a b : ℕ). a + b) (sum-same n f g (λ k h. e k (omega arith))) (e n (omega arith))
 
 -- what the sums of n columns from place `from` on say of the block whose window begins at column m of them
 module _ (d : List ℕ) (pitch pairs n m : ℕ) (inside : m + 6 < n) where

@@ -7,13 +7,15 @@ use native.Mathlib.Nat.{zero-add}
 use native.Mathlib.Omega.{arith}
 use lib.ListN.{length, getD}
 use Rattle.alf_spec.specs.Arithmetic.{distance}
+use Rattle.alf_spec.proofs.Tests.{never}
 use Rattle.alf_pieces.specs.Regions.{between}
+use Rattle.alf_pieces.specs.Copies.{area}
 use Rattle.alf_pieces.proofs.Painted.{Paint, paint-in, paint-out}
-use Rattle.alf_pieces.proofs.Regions.{in-run, run-facts, never}
-use Rattle.alf_classify.specs.Windows.{differenceAt, differenceFrom, area, Differences, SmallRun, SmallRuns}
+use Rattle.alf_pieces.proofs.Regions.{in-run, run-facts}
+use Rattle.alf_classify.specs.Windows.{differenceAt, differenceFrom, Differences, SmallRun, SmallRuns}
 
 -- a run over the first n samples of the copy, but for m of them at each end, that writes from place `at` on
-abbrev pub Run : List ℕ → ℕ → ℕ → ℕ → ℕ → List ℕ → List ℕ → Type 0
+abbrev Run : List ℕ → ℕ → ℕ → ℕ → ℕ → List ℕ → List ℕ → Type 0
 Run copy n m step at xs ys = Paint xs (between (at + m) (n - (m + m))) (differenceFrom copy step at) ys
 
 module _ (copy : List ℕ) (n m step at : ℕ) {xs ys : List ℕ} (run : Run copy n m step at xs ys) where

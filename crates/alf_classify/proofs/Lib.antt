@@ -5,4 +5,3 @@ pub mod WindowSums
 pub mod PieceRows
 pub mod PieceClasses
 pub mod ClassWorks
-pub mod ClassAddresses

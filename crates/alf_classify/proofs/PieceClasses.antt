@@ -25,11 +25,11 @@ use Rattle.alf_pieces.specs.Regions.{between, inRect}
 use Rattle.alf_pieces.specs.Pieces.{PieceOf, CtbOf}
 use Rattle.alf_pieces.specs.Copies.{pitch, copyLength, copied, copyAt}
 use Rattle.alf_pieces.proofs.Regions.{Inside, rect-facts}
-use Rattle.alf_classify.specs.Windows.{copyWindow}
-use Rattle.alf_classify.specs.Work.{copyClassAt}
 use Rattle.alf_pieces.proofs.CtbPieces.{column-facts, row-facts}
 use Rattle.alf_pieces.proofs.CopyReads.{copy-reads}
 use Rattle.alf_pieces.proofs.CopySamples.{copy-at, window-in}
+use Rattle.alf_classify.specs.Windows.{copyWindow}
+use Rattle.alf_classify.specs.Work.{copyClassAt}
 
 module _ {l : Layout} {p : Picture} {c : Ctb} {s : Sides} (ctb : CtbOf l p c s) {g : Grid} (grid : GridOf p g) {columns rows : Piece}
     (across : PieceOf (lumaPlane l .columns) (columnDisabled l c) (c .column) columns) (down : PieceOf (lumaPlane l .rows) (rowDisabled l c) (c .row) rows)

@@ -3,23 +3,22 @@ use mathlib.Core.Path.{_≡_, sym, ap}
 use mathlib.Core.Bool.{true}
 use mathlib.Core.List.{List}
 use Prim.Native.Nat.{ℕ, _+_, _-_, _*_, _/_, _%_, _≤_, _<_}
-use native.Mathlib.Nat.{le-trans, mul-le-mul, mul-le-mul-right}
+use native.Mathlib.Nat.{le-trans, mul-le-mul-right}
 use native.Mathlib.Omega.{arith}
 use lib.Dec.{leb}
 use lib.ListN.{length, getD}
-use borrow.Author.Tests.{leb-true}
 use Rattle.alf_spec.specs.declared.Picture.{Picture}
 use Rattle.alf_spec.specs.declared.WindowRows.{WindowRows}
 use Rattle.alf_spec.specs.Classes.{windowRows, windowSums, classOfSums, classOf}
 use Rattle.alf_spec.specs.Process.{classNumber}
-use Rattle.alf_spec.specs.Faults.{bitDepthValid}
-use Rattle.alf_spec.proofs.Tests.{both}
 use Rattle.alf_pieces.specs.declared.pieces.Piece.{Piece}
-use Rattle.alf_pieces.specs.Copies.{extent}
+use Rattle.alf_pieces.specs.Pieces.{BlockPiece}
+use Rattle.alf_pieces.specs.Copies.{extent, pitch as pitchOf, copyLength, area}
 use Rattle.alf_pieces.specs.Regions.{between}
 use Rattle.alf_pieces.proofs.Regions.{run-facts, row-of}
-use Rattle.alf_classify.specs.Windows.{copyWindow, area, Differences, blockSums, SmallRuns, rowClass}
-use Rattle.alf_classify.specs.Work.{BlockPiece, copyClassAt}
+use Rattle.alf_pieces.proofs.CopyRooms.{copy-fits}
+use Rattle.alf_classify.specs.Windows.{copyWindow, Differences, blockSums, SmallRuns, rowClass}
+use Rattle.alf_classify.specs.Work.{copyClassAt}
 use Rattle.alf_classify.proofs.DifferenceLists.{small-runs}
 use Rattle.alf_classify.proofs.WindowSums.{RowBounds, row-bounds, window-sums}
 
@@ -66,19 +65,12 @@ row-fits t first pairs pitch count h =
     let three : 3 * (2 * pitch) ≤ pairs * (2 * pitch) = mul-le-mul-right (2 * pitch) (h .2) in
     (omega arith, omega arith)
 
--- of an accepted picture
-pub depth-bounds : (p : Picture) → bitDepthValid p ≡ true → (8 ≤ p .«bit_depth») × (p .«bit_depth» ≤ 12)
-unfolding bitDepthValid
-depth-bounds p e = let h = both (leb 8 (p .«bit_depth»)) (leb (p .«bit_depth») 12) e in (leb-true 8 _ (h .0), leb-true _ 12 (h .1))
-
 -- what the run over the copy asks of the piece's sizes
-pub copy-bounds : (m n e f : ℕ) → (m ≡ e) × (n ≡ f) × (e ≤ 128) × (f ≤ 128)
-    → (2 * (m + 6 + 1) ≤ (n + 6) * (m + 6)) × ((n + 6) * (m + 6) ≤ area)
-copy-bounds m n e f h =
-    let low : 6 * (m + 6) ≤ (n + 6) * (m + 6) = mul-le-mul-right (m + 6) (omega arith) in
-    let tall : n + 6 ≤ 134 = omega arith in
-    let wide : m + 6 ≤ 134 = omega arith in
-    (omega arith, mul-le-mul tall wide)
+pub copy-bounds : {m n : ℕ} {columns rows : Piece} → BlockPiece m columns → BlockPiece n rows
+    → (2 * (pitchOf columns + 1) ≤ copyLength columns rows) × (copyLength columns rows ≤ area)
+copy-bounds {columns = columns} {rows = rows} across down =
+    let low : 6 * pitchOf columns ≤ copyLength columns rows = mul-le-mul-right (pitchOf columns) (omega arith) in
+    (omega arith, copy-fits (across .numbers) (down .numbers) (omega arith))
 
 pub last-column : {p : Picture} {columns rows : Piece} {copy d : List ℕ} {map pitch count : ℕ} → Prepared p columns rows copy d map pitch count
     → columns .start / 4 + count ≡ columns .end / 4
@@ -86,7 +78,7 @@ last-column P = omega (arith, P .countIs, blocks (P .across) .last)
 
 module _ (p : Picture) (ctb : ℕ) (columns rows : Piece) (copy d : List ℕ) {map pitch count : ℕ} (P : Prepared p columns rows copy d map pitch count)
     (row : ℕ) (low : rows .start / 4 ≤ row) (high : row < rows .end / 4) where
-  abbrev pub Window : WindowRows → Type 0
+  abbrev Window : WindowRows → Type 0
   Window w = w ≡ windowRows (leb (4 * row / ctb * ctb + ctb) (p .height)) ctb (4 * row % ctb)
 
   -- the row's first sample, in the piece
@@ -109,10 +101,7 @@ module _ (p : Picture) (ctb : ℕ) (columns rows : Piece) (copy d : List ℕ) {m
     wide = let b = blocks (P .across) in omega (arith, P .pitchIs, P .countIs, b .whole)
 
     copy-small : (extent rows + 6) * pitch ≤ area
-    copy-small =
-        let h : extent rows + 6 ≤ 134 = omega (arith, blocks (P .down) .few) in
-        let w : pitch ≤ 134 = omega (arith, P .pitchIs, blocks (P .across) .few) in
-        mul-le-mul h w
+    copy-small = rw (P .pitchIs) (copy-bounds (P .across) (P .down) .1)
 
     all-inside : (pitch + 1 ≤ from) × (from + (4 * count + 3) + (window .count / 2 * (2 * pitch) + 1 - pitch) + (pitch + 1) ≤ (extent rows + 6) * pitch)
     all-inside =

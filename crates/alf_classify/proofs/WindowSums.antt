@@ -12,9 +12,9 @@ use Rattle.alf_spec.specs.Lists.{sumBelow}
 use Rattle.alf_spec.specs.Arithmetic.{distance}
 use Rattle.alf_spec.specs.Classes.{filtH, filtV, filtD0, filtD1, windowRows, windowSum, windowSums}
 use Rattle.alf_spec.proofs.Tests.{cond-either}
-use Rattle.alf_spec.proofs.Lists.{tabulate-at}
-use Rattle.alf_classify.specs.Windows.{copyWindow, differenceAt, area, Differences, columnSum, blockSum, blockSums}
-use Rattle.alf_classify.proofs.ColumnSums.{sum-same}
+use Rattle.alf_spec.proofs.Lists.{tabulate-at, sum-same}
+use Rattle.alf_pieces.specs.Copies.{area}
+use Rattle.alf_classify.specs.Windows.{copyWindow, differenceAt, Differences, columnSum, blockSum, blockSums}
 
 -- ---- the rows that count
 

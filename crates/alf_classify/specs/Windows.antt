@@ -10,6 +10,7 @@ use Rattle.alf_spec.specs.Lists.{sumBelow, tabulate}
 use Rattle.alf_spec.specs.Arithmetic.{distance}
 use Rattle.alf_spec.specs.Classes.{classOfSums}
 use Rattle.alf_spec.specs.Process.{classNumber}
+use Rattle.alf_pieces.specs.Copies.{area}
 
 -- the window of the block whose first sample is at column s and row t of a piece, in the piece's copy, of which a row has `pitch` samples: entry
 -- 10 j + i stands at the offsets i − 3 and j − 3, as in `classWindow`
@@ -25,10 +26,6 @@ differenceAt copy step k = distance (2 * getD copy k 0) (getD copy (k - step) 0 
 -- at place k of a list in which that of sample 0 would stand at place `at`
 abbrev pub differenceFrom : List ℕ → ℕ → ℕ → ℕ → ℕ
 differenceFrom copy step at k = differenceAt copy step (k - at)
-
--- a copy has at most 134 by 134 samples
-abbrev pub area : ℕ
-area = 17956
 
 -- the differences in each direction, `area` places apart, of the copy's first n samples, all but the outermost ones
 pub record Differences (copy : List ℕ) (pitch n : ℕ) (d : List ℕ) : Type 0 where

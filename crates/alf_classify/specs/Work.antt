@@ -12,27 +12,24 @@ use Rattle.alf_spec.specs.Process.{classNumber}
 use Rattle.alf_spec.specs.Faults.{pictureSizeValid, ctbSizeValid, bitDepthValid}
 use Rattle.alf_math.specs.Grids.{GridOf}
 use Rattle.alf_pieces.specs.declared.pieces.Piece.{Piece}
-use Rattle.alf_pieces.specs.Pieces.{PieceIn}
-use Rattle.alf_pieces.specs.Copies.{pitch}
-use Rattle.alf_classify.specs.Windows.{copyWindow, area}
+use Rattle.alf_pieces.specs.Copies.{pitch, area}
+use Rattle.alf_classify.specs.Windows.{copyWindow}
 
--- an accepted picture and its grid, its luma samples, and lists of these lengths: the copy of a piece, its differences, and the map
-pub record ClassWork (p : Picture) (g : Grid) (luma : List ℕ) (copy differences map : ℕ) : Type 0 where
+-- an accepted picture and its grid, and lists of these lengths: the copy of a piece, its differences, and the map
+pub record Rooms (p : Picture) (g : Grid) (copy differences map : ℕ) : Type 0 where
   pub grid : GridOf p g
   pub sizes : pictureSizeValid p ≡ true
   pub ctbSize : ctbSizeValid p ≡ true
   pub depth : bitDepthValid p ≡ true
-  pub lumaLength : length luma ≡ p .width * p .height
-  pub samples : (k : ℕ) → getD luma k 0 < 4096
   pub copyRoom : area ≤ copy
   pub differenceRoom : 4 * area ≤ differences
   pub mapLength : map ≡ p .width / 4 * (p .height / 4)
 
--- a piece of whole 4 by 4 blocks along an axis of n samples
-pub record BlockPiece (n : ℕ) (p : Piece) : Type 0 where
-  pub numbers : PieceIn n p
-  pub start4 : p .start % 4 ≡ 0
-  pub end4 : p .end % 4 ≡ 0
+-- and the picture's luma samples
+pub record ClassWork (p : Picture) (g : Grid) (luma : List ℕ) (copy differences map : ℕ) : Type 0 where
+  pub rooms : Rooms p g copy differences map
+  pub lumaLength : length luma ≡ p .width * p .height
+  pub samples : (k : ℕ) → getD luma k 0 < 4096
 
 -- the class and the transpose of the block of entry k of the map, from the copy of the piece in which it lies
 unfoldable pub copyClassAt : Picture → ℕ → List ℕ → Piece → Piece → ℕ → ℕ

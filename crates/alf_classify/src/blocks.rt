@@ -7,20 +7,26 @@ ghost use Rattle.alf_spec.specs.Lists.{painted};
 ghost use Rattle.alf_spec.specs.Classes.{windowRows, classOfSums};
 ghost use Rattle.alf_spec.specs.Process.{classNumber};
 ghost use Rattle.alf_pieces.specs.Regions.{between, inRect};
-ghost use Rattle.alf_pieces.specs.Copies.{extent, copyLength};
-ghost use Rattle.alf_classify.specs.Windows.{area, SmallRuns, columnSums, columnClass, rowClass};
-ghost use Rattle.alf_classify.specs.Work.{ClassWork, BlockPiece, copyClassAt};
+ghost use Rattle.alf_pieces.specs.Pieces.{BlockPiece};
+ghost use Rattle.alf_pieces.specs.Copies.{area, copyLength};
+ghost use Rattle.alf_classify.specs.Windows.{SmallRuns, columnSums, columnClass, rowClass};
+ghost use Rattle.alf_classify.specs.Work.{Rooms, copyClassAt};
+use crate::differences::AREA;
 use crate::differences::all_differences;
 use crate::sums::block_sum;
 use crate::sums::column_sums;
 use alf_boundary::clips::line_rule;
 use alf_math::direction::class_of_sums;
 use alf_math::windows::window_rows;
+use alf_pieces::copies::extent;
 use alf_pieces::pieces::Piece;
 use alf_spec::Grid;
 use alf_spec::Picture;
 use alf_spec::Sums;
 use alf_spec::WindowRows;
+
+// The windows of a row of 32 blocks have so many columns: each begins 4 after the one before, and the last column that counts is its seventh.
+const COLUMNS: usize = 131;
 
 // The class number of a block, from the sums of columns; those of its window begin at place `at`.
 fn block_class(
@@ -46,7 +52,7 @@ fn block_class(
     (class.filter + 32 * class.transpose) as u8
 }
 
-// Of so many blocks in a row.
+// The class numbers of so many blocks in a row.
 fn class_run(
     v: &[u16],
     h: &[u16],
@@ -70,7 +76,7 @@ fn class_run(
     }
 }
 
-// Of a row of blocks of a piece, of which the differences that count begin at place `from`.
+// The class numbers of a row of blocks of a piece; the differences that count for it begin at place `from`.
 fn class_row(
     differences: &[u16],
     from: usize,
@@ -90,23 +96,15 @@ fn class_row(
 {
     let pairs = window.count / 2;
     let n = 4 * count + 3;
-    let mut v: [u16; 136] = [0; 136];
-    let mut h: [u16; 136] = [0; 136];
-    let mut d0: [u16; 136] = [0; 136];
-    let mut d1: [u16; 136] = [0; 136];
+    let mut v: [u16; COLUMNS] = [0; COLUMNS];
+    let mut h: [u16; COLUMNS] = [0; COLUMNS];
+    let mut d0: [u16; COLUMNS] = [0; COLUMNS];
+    let mut d1: [u16; COLUMNS] = [0; COLUMNS];
     column_sums(differences, from, pitch, pairs, n, &mut v);
-    column_sums(differences, 17956 + from, pitch, pairs, n, &mut h);
-    column_sums(differences, 35912 + from, pitch, pairs, n, &mut d0);
-    column_sums(differences, 53868 + from, pitch, pairs, n, &mut d1);
+    column_sums(differences, AREA + from, pitch, pairs, n, &mut h);
+    column_sums(differences, 2 * AREA + from, pitch, pairs, n, &mut d0);
+    column_sums(differences, 3 * AREA + from, pitch, pairs, n, &mut d1);
     class_run(&v, &h, &d0, &d1, count, window.factor, depth, map, at);
-}
-
-// The samples of a piece along its axis.
-fn piece_extent(p: Piece) -> usize
-    requires { ⌜ p .start ≤ p .end ⌝ }
-    ensures { λ r. ⌜ r ≡ extent p ⌝ }
-{
-    (p.end - p.start) as usize
 }
 
 // The rows that count in the windows of the blocks whose first row is y.
@@ -139,22 +137,22 @@ pub(crate) fn piece_classes(
     grid: Grid,
     columns: Piece,
     rows: Piece,
-    luma: &[u16],
     copy: &[u16],
     differences: &mut [u16],
     map: &mut [u8],
 )
-    requires { ⌜ (ClassWork picture grid (now luma) (length (now copy)) (length (now differences)) (length (now map)))
+    requires { ⌜ (Rooms picture grid (length (now copy)) (length (now differences)) (length (now map)))
         × (BlockPiece (picture .width) columns) × (BlockPiece (picture .height) rows)
         × ((k : ℕ) → k < copyLength columns rows → getD (now copy) k 0 < 4096) ⌝ }
     ensures { λ _. ⌜ now (map .exit) ≡ painted (now (map .entry))
         (inRect (picture .width / 4) (columns .start / 4) (columns .end / 4) (rows .start / 4) (rows .end / 4))
         (copyClassAt picture (grid .ctb) (now (copy .entry)) columns rows) ⌝ }
 {
-    let pitch = piece_extent(columns) + 6;
-    let n = (piece_extent(rows) + 6) * pitch;
+    let width = extent(columns);
+    let pitch = width + 6;
+    let n = (extent(rows) + 6) * pitch;
     all_differences(copy, pitch, n, differences);
-    let count = piece_extent(columns) / 4;
+    let count = width / 4;
     let depth = picture.bit_depth as u32;
     let end = rows.end / 4;
     let mut row = rows.start / 4;

@@ -4,8 +4,12 @@ ghost use Prim.Native.Nat.{ℕ, _+_, _-_, _*_, _≤_, _<_};
 ghost use lib.ListN.{length, getD};
 ghost use Rattle.alf_spec.specs.Lists.{painted};
 ghost use Rattle.alf_pieces.specs.Regions.{between};
-ghost use Rattle.alf_classify.specs.Windows.{differenceAt, differenceFrom, area, Differences};
+ghost use Rattle.alf_pieces.specs.Copies.{area};
+ghost use Rattle.alf_classify.specs.Windows.{differenceAt, differenceFrom, Differences};
 use alf_math::windows::second_difference;
+
+// A copy has at most 134 by 134 samples.
+pub(crate) const AREA: usize = 17956;
 
 // Of sample k of the copy and the two that lie `step` before and after it.
 fn difference(copy: &[u16], k: usize, step: usize) -> u16
@@ -16,8 +20,8 @@ fn difference(copy: &[u16], k: usize, step: usize) -> u16
     second_difference(copy[k], copy[k - step], copy[k + step])
 }
 
-// In one direction, of the first n samples but for `margin` of them at each end. One run over all rows: a difference across the copy's side is
-// of no use, and does no harm.
+// In one direction, of the first n samples but for `margin` of them at each end. One run over all rows: a difference that spans the ends of two
+// rows is never summed.
 fn second_differences(
     copy: &[u16],
     n: usize,
@@ -49,7 +53,7 @@ pub(crate) fn all_differences(copy: &[u16], pitch: usize, n: usize, differences:
 {
     let margin = pitch + 1;
     second_differences(copy, n, margin, pitch, differences, 0);
-    second_differences(copy, n, margin, 1, differences, 17956);
-    second_differences(copy, n, margin, pitch + 1, differences, 35912);
-    second_differences(copy, n, margin, pitch - 1, differences, 53868);
+    second_differences(copy, n, margin, 1, differences, AREA);
+    second_differences(copy, n, margin, pitch + 1, differences, 2 * AREA);
+    second_differences(copy, n, margin, pitch - 1, differences, 3 * AREA);
 }

@@ -10,13 +10,14 @@ ghost use Rattle.alf_spec.specs.Boundary.{columnDisabled, rowDisabled};
 ghost use Rattle.alf_spec.specs.Process.{classAt, classMap};
 ghost use Rattle.alf_spec.specs.Faults.{virtualListValid, fault};
 ghost use Rattle.alf_spec.specs.declared.Ctb.{Ctb};
-ghost use Rattle.alf_pieces.specs.Regions.{inRect};
-ghost use Rattle.alf_pieces.specs.Pieces.{PieceOf, CtbOf};
 ghost use Rattle.alf_math.specs.Grids.{GridOf};
-ghost use Rattle.alf_classify.specs.Windows.{area};
+ghost use Rattle.alf_pieces.specs.Regions.{inRect};
+ghost use Rattle.alf_pieces.specs.Pieces.{PieceOf, BlockPiece, CtbOf};
+ghost use Rattle.alf_pieces.specs.Copies.{area};
 ghost use Rattle.alf_pieces.specs.CtbRegions.{ofCtb};
-ghost use Rattle.alf_classify.specs.Work.{ClassWork, BlockPiece};
+ghost use Rattle.alf_classify.specs.Work.{ClassWork};
 use crate::blocks::piece_classes;
+use crate::differences::AREA;
 use alf_boundary::padding::least;
 use alf_boundary::sides::sides_of;
 use alf_math::grid::grid;
@@ -29,10 +30,7 @@ use alf_spec::Grid;
 use alf_spec::Picture;
 use alf_spec::Sides;
 
-// A copy has at most 134 by 134 samples.
-const AREA: usize = 17956;
-
-// The classes of a piece of a CTB with these sides.
+// The classes of a piece: those of every layout in which a CTB has these sides and the piece is one of its pieces.
 fn class_piece(
     picture: Picture,
     grid: Grid,
@@ -52,7 +50,7 @@ fn class_piece(
         (inRect (picture .width / 4) (columns .start / 4) (columns .end / 4) (rows .start / 4) (rows .end / 4)) (classAt l (now (luma .entry)))) ⌝ }
 {
     copy_piece(luma, picture.width as usize, columns, rows, sides, copy);
-    piece_classes(picture, grid, columns, rows, luma, copy, differences, map);
+    piece_classes(picture, grid, columns, rows, copy, differences, map);
 }
 
 // The classes of the CTB's blocks in a piece of its rows.
@@ -70,7 +68,7 @@ fn class_strip(
 )
     requires { ⌜ (ClassWork picture grid (now luma) (length (now copy)) (length (now differences)) (length (now map)))
         × (virtualListValid (picture .width) (ctbSize picture) (now «virtual_columns») ≡ true)
-        × (BlockPiece (picture .height) rows) × (ctb .column * grid .ctb < picture .width) × (ctb .column ≤ 128) ⌝ }
+        × (BlockPiece (picture .height) rows) × (ctb .column * grid .ctb < picture .width) ⌝ }
     ensures { λ _. ⌜ ((l : Layout) → CtbOf l picture ctb sides → l .virtualColumns ≡ now («virtual_columns» .entry)
         → PieceOf (lumaPlane l .rows) (rowDisabled l ctb) (ctb .row) rows
         → now (map .exit) ≡ painted (now (map .entry))
@@ -113,7 +111,7 @@ fn class_ctb(
     requires { ⌜ (ClassWork picture grid (now luma) (length (now copy)) (length (now differences)) (length (now map)))
         × (virtualListValid (picture .width) (ctbSize picture) (now «virtual_columns») ≡ true)
         × (virtualListValid (picture .height) (ctbSize picture) (now «virtual_rows») ≡ true)
-        × (ctb .column * grid .ctb < picture .width) × (ctb .column ≤ 128) × (ctb .row * grid .ctb < picture .height) × (ctb .row ≤ 128) ⌝ }
+        × (ctb .column * grid .ctb < picture .width) × (ctb .row * grid .ctb < picture .height) ⌝ }
     ensures { λ _. ⌜ ((l : Layout) → CtbOf l picture ctb sides → l .virtualColumns ≡ now («virtual_columns» .entry)
         → l .virtualRows ≡ now («virtual_rows» .entry) → now (map .exit) ≡ painted (now (map .entry))
         (inRect (picture .width / 4) (ctb .column * grid .ctb / 4) (min (ctb .column * grid .ctb + grid .ctb) (picture .width) / 4)

@@ -6,7 +6,7 @@ ghost use Rattle.alf_spec.specs.Lists.{painted};
 ghost use Rattle.alf_pieces.specs.Regions.{between};
 ghost use Rattle.alf_classify.specs.Windows.{pairAt, columnSum, SmallRun, columnFrom, pairAdded, fourColumns};
 
-// The two samples of a 2 by 2 cell that count.
+// At an even column, the two samples of a 2 by 2 cell that count: those whose offsets are both even, and both odd. At an odd column it is of no use.
 fn pair(d: &[u16], k: usize, pitch: usize) -> u16
     requires { ⌜ (k + (pitch + 1) < length (now d)) × (SmallRun (now d) k (k + (pitch + 2))) ⌝ }
     ensures { λ r. ⌜ (r ≡ pairAt (now (d .entry)) pitch k) × (r ≤ 16380) ⌝ }
@@ -22,7 +22,7 @@ fn three_pairs(d: &[u16], k: usize, pitch: usize) -> u16
     pair(d, k, pitch) + pair(d, k + 2 * pitch, pitch) + pair(d, k + 4 * pitch, pitch)
 }
 
-// Of n columns.
+// The same of n columns, one after the other.
 fn sum_three_pairs(d: &[u16], from: usize, pitch: usize, n: usize, sums: &mut [u16])
     requires { ⌜ (n ≤ length (now sums)) × (from + n + (5 * pitch + 1) ≤ length (now d)) × (SmallRun (now d) from (from + n + (5 * pitch + 1))) ⌝ }
     ensures { λ _. ⌜ now (sums .exit) ≡ painted (now (sums .entry)) (between 0 n) (columnFrom (now (d .entry)) pitch 3 from) ⌝ }
@@ -34,7 +34,7 @@ fn sum_three_pairs(d: &[u16], from: usize, pitch: usize, n: usize, sums: &mut [u
     }
 }
 
-// A pair more, added to the sums.
+// One pair of rows more, added to the sums of n columns.
 fn add_pair(d: &[u16], from: usize, pitch: usize, n: usize, sums: &mut [u16])
     requires { ⌜ (n ≤ length (now sums)) × (from + n + (pitch + 1) ≤ length (now d)) × (SmallRun (now d) from (from + n + (pitch + 1)))
         × ((x : ℕ) → x < n → getD (now sums) x 0 ≤ 49140) ⌝ }

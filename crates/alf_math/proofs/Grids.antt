@@ -2,18 +2,18 @@
 use mathlib.Core.Path.{_≡_, _∙_}
 use mathlib.Core.Bool.{true}
 use Prim.Native.Nat.{ℕ, _+_, _-_, _*_, _/_, _%_, _^_, _≤_, _<_}
-use native.Mathlib.Nat.{one-mul, mul-le-mul, mod-eq-of-lt, le-div-iff-mul-le, div-lt-iff-lt-mul}
+use native.Mathlib.Nat.{le-trans, one-mul, mul-le-mul, mod-eq-of-lt, le-div-iff-mul-le, div-lt-iff-lt-mul, mul-le-mul-left}
 use native.Mathlib.Omega.{arith}
-use lib.Dec.{eqb, leb}
+use lib.Dec.{eqb}
 use lib.Pow.{pow-lt, pow-mono}
-use borrow.Author.Tests.{leb-true}
 use Rattle.alf_spec.specs.declared.Picture.{Picture}
 use Rattle.alf_spec.specs.declared.Grid.{Grid}
 use Rattle.alf_spec.specs.Lists.{within}
 use Rattle.alf_spec.specs.Input.{Layout}
 use Rattle.alf_spec.specs.Geometry.{ctbSize, planeOf, ctbColumns, ctbRows, ctbTotal}
-use Rattle.alf_spec.specs.Faults.{sizeValid, pictureSizeValid, ctbSizeValid}
-use Rattle.alf_spec.proofs.Tests.{both}
+use Rattle.alf_spec.specs.Faults.{sizeValid, pictureSizeValid, ctbSizeValid, bitDepthValid}
+use Rattle.alf_spec.proofs.Tests.{both, within-bounds}
+use Rattle.alf_spec.proofs.Accepted.{sizes-valid}
 use Rattle.alf_math.specs.Grids.{ctbsAlong, GridOf}
 
 -- 1 << n in so many bits
@@ -26,26 +26,24 @@ along-bounds s n hs hn =
     let few : (n + (s - 1)) / s < 129 = div-lt-iff-lt-mul {k = s} (omega arith) .1 (omega arith) in
     (le-div-iff-mul-le {k = s} (omega arith) .1 (omega arith), omega arith)
 
+-- the place of a CTB that begins before the end of that many
+pub place-bound : {q s n : ℕ} → 32 ≤ s → n ≤ 4096 → q * s < n → q ≤ 128
+place-bound {q} {s} {n} low high begins = omega (arith, mul-le-mul-left q low)
+
 -- what an accepted picture says of its sizes
 module _ (p : Picture) (sizes : pictureSizeValid p ≡ true) (log2 : ctbSizeValid p ≡ true) where
   bounded : (n : ℕ) → sizeValid n ≡ true → (8 ≤ n) × (n ≤ 4096)
-  bounded n e =
-      let h = both (leb 8 n) (leb n 4096) (both (eqb (n % 8) 0) (within 8 4096 n) e .1) in
-      (leb-true 8 n (h .0), leb-true n 4096 (h .1))
+  bounded n e = within-bounds 8 4096 n (both (eqb (n % 8) 0) (within 8 4096 n) e .1)
 
   pub width-bounds : (8 ≤ p .width) × (p .width ≤ 4096)
-  unfolding pictureSizeValid
-  width-bounds = bounded (p .width) (both (sizeValid (p .width)) (sizeValid (p .height)) sizes .0)
+  width-bounds = bounded (p .width) (sizes-valid p sizes .0)
 
   pub height-bounds : (8 ≤ p .height) × (p .height ≤ 4096)
-  unfolding pictureSizeValid
-  height-bounds = bounded (p .height) (both (sizeValid (p .width)) (sizeValid (p .height)) sizes .1)
+  height-bounds = bounded (p .height) (sizes-valid p sizes .1)
 
   pub log2-bounds : (5 ≤ p .«ctb_log2») × (p .«ctb_log2» ≤ 7)
   unfolding ctbSizeValid
-  log2-bounds =
-      let h = both (leb 5 (p .«ctb_log2»)) (leb (p .«ctb_log2») 7) log2 in
-      (leb-true 5 (p .«ctb_log2») (h .0), leb-true (p .«ctb_log2») 7 (h .1))
+  log2-bounds = within-bounds 5 7 (p .«ctb_log2») log2
 
   pub ctb-bounds : (32 ≤ ctbSize p) × (ctbSize p ≤ 128)
   unfolding ctbSize
@@ -75,6 +73,16 @@ module _ (p : Picture) (sizes : pictureSizeValid p ≡ true) (log2 : ctbSizeVali
           rowsLow = rw high (h .0);
           rowsHigh = rw high (h .1);
         }
+
+-- and of its bit depth
+module _ (p : Picture) (valid : bitDepthValid p ≡ true) where
+  pub depth-bounds : (8 ≤ p .«bit_depth») × (p .«bit_depth» ≤ 12)
+  unfolding bitDepthValid
+  depth-bounds = within-bounds 8 12 (p .«bit_depth») valid
+
+  -- of its samples
+  pub sample-bound : {n : ℕ} → n < 2 ^ p .«bit_depth» → n < 4096
+  sample-bound h = le-trans h (pow-mono (depth-bounds .1))
 
 -- there are at most 128 by 128 CTBs
 pub few-ctbs : {p : Picture} {g : Grid} → GridOf p g → g .columns * g .rows ≤ 16384

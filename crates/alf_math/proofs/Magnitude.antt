@@ -2,18 +2,21 @@
 -- reading of a signed value from its bits. Assumes nothing.
 use mathlib.Core.Path.{_≡_, refl, _∙_}
 use mathlib.Core.Bool.{Bool, true, false, cond, true≢false}
+use mathlib.Core.List.{List}
 use Prim.Native.Nat.{ℕ, zero, suc, _+_, _-_, _*_, _^_, _≤_, _<_}
 use native.Mathlib.Nat.{le-refl, lt-of-le-of-lt, mul-le-mul, div-le-self}
 use native.Mathlib.Omega.{arith}
 use borrow.Author.Tests.{ltb-true, ltb-false}
 use lib.Dec.{T, ltb}
+use lib.ListN.{getD}
 use lib.IntN.{ℤ, pos, negsuc, negℤ, natAbs, _+ℤ_, _-ℤ_, _*ℤ_}
 use lib.Signed.{mag, ltZ, nonNeg, shrZ, mag-shr}
 use mir.Syntax.{Width, w16, w32}
 use mir.Val.{Fits, SFits, hbits, toZ, ofZ}
 use mir.Facts.{toZ-ofZ, sfits-widen}
 use mir.ValLaws.{sfits-le}
-use Rattle.alf_spec.specs.Arithmetic.{clip3, clippedChange, tap}
+use Rattle.alf_spec.specs.Lists.{sumBelowℤ}
+use Rattle.alf_spec.specs.Arithmetic.{clip3, clippedChange, tap, tapSum}
 
 -- ---- magnitudes
 
@@ -130,3 +133,17 @@ module _ (curr : ℕ) (f c : ℤ) (hf : natAbs f ≤ 128) (hc : natAbs c ≤ 409
   pub abs-tap : (u v : ℕ) → natAbs (tap curr f c u v) ≤ 2 ^ 20
   unfolding tap
   abs-tap u v = rw abs-mul (mul-le-mul hf (abs-pair u v))
+
+-- a sum of integers, each at most b
+pub abs-sum : (f : ℕ → ℤ) (b : ℕ) → ((j : ℕ) → natAbs (f j) ≤ b) → (n : ℕ) → natAbs (sumBelowℤ n f) ≤ n * b
+unfolding sumBelowℤ
+abs-sum f b each zero = omega arith
+abs-sum f b each (suc n) = omega (arith, abs-add (sumBelowℤ n f) (f n), abs-sum f b each n, each n)
+
+-- all taps of a sample: with the 12 of luma, less than 2 ^ 24
+pub abs-tap-sum : (n curr : ℕ) (f c : ℕ → ℤ) → ((j : ℕ) → natAbs (f j) ≤ 128) → ((j : ℕ) → natAbs (c j) ≤ 4096) → (plus minus : List ℕ)
+    → natAbs (tapSum n curr f c plus minus) ≤ n * 2 ^ 20
+unfolding tapSum
+abs-tap-sum n curr f c hf hc plus minus =
+    abs-sum (λ j. tap curr (f j) (c j) (getD plus j 0) (getD minus j 0)) (2 ^ 20)
+    (λ j. abs-tap curr (f j) (c j) (hf j) (hc j) (getD plus j 0) (getD minus j 0)) n

@@ -5,10 +5,10 @@ ghost use Rattle.alf_spec.specs.Arithmetic.{distance};
 ghost use Rattle.alf_spec.specs.Classes.{windowRows};
 use alf_spec::WindowRows;
 
-// (1472) to (1475): c between a and b. In 16 bits, so that a vector holds eight.
+// Abs( 2c − a − b ) of (1472) to (1475). At bit depth 12 it is at most 8,190, so 16 bits hold it, and a vector of 128 bits eight of it.
 pub fn second_difference(c: u16, a: u16, b: u16) -> u16
     requires { ⌜ (c < 4096) × (a < 4096) × (b < 4096) ⌝ }
-    ensures { λ r. ⌜ r ≡ distance (2 * c) (a + b) ⌝ }
+    ensures { λ r. ⌜ (r ≡ distance (2 * c) (a + b)) × (r ≤ 8190) ⌝ }
 {
     let twice = 2 * c;
     let sum = a + b;

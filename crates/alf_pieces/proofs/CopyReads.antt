@@ -1,6 +1,6 @@
 -- The copy of a piece holds, for every sample of the piece and every neighbour in reach, the sample at the padded position. Assumes nothing.
 use mathlib.Core.Path.{_≡_, refl, sym, ap, ap₂, _∙_}
-use mathlib.Core.Bool.{Bool, true, false, true≢false, _&&_, cond}
+use mathlib.Core.Bool.{Bool, true, false, true≢false, _&&_, and-false, cond}
 use mathlib.Core.List.{List}
 use mathlib.Core.Option.{Option}
 use Prim.Native.Nat.{ℕ, zero, suc, _+_, _-_, _/_, _<_}
@@ -51,10 +51,6 @@ module _ (a : Axis) (disabled : Side → Bool) (n : ℕ) (piece : Piece) (facts 
         ∙ facts .past x u in-piece d
 
 -- ---- the corners
-
-and-false : (a : Bool) → (a && false) ≡ false
-and-false true = refl
-and-false false = refl
 
 -- the conjuncts of `pastCorner`, by axis
 by-axis : (a b c d e : Bool) → (a && (b && (c && (d && e)))) ≡ ((e && (b && d)) && (a && c))

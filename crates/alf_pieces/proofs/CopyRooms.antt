@@ -4,10 +4,10 @@ use native.Mathlib.Nat.{le-trans, mul-comm, mul-le-mul, mul-le-mul-right}
 use native.Mathlib.Omega.{arith}
 use Rattle.alf_pieces.specs.declared.pieces.Piece.{Piece}
 use Rattle.alf_pieces.specs.Pieces.{PieceIn}
-use Rattle.alf_pieces.specs.Copies.{pitch, copyLength}
+use Rattle.alf_pieces.specs.Copies.{pitch, copyLength, area}
 
 -- a copy has at most 134 by 134 samples
-pub copy-fits : {n m room : ℕ} {columns rows : Piece} → PieceIn n columns → PieceIn m rows → 17956 ≤ room → copyLength columns rows ≤ room
+pub copy-fits : {n m room : ℕ} {columns rows : Piece} → PieceIn n columns → PieceIn m rows → area ≤ room → copyLength columns rows ≤ room
 copy-fits {columns = columns} {rows = rows} across down enough =
     let wide : pitch columns ≤ 134 = omega (arith, across .small) in
     let high : pitch rows ≤ 134 = omega (arith, down .small) in

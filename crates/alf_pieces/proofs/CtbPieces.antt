@@ -1,5 +1,5 @@
 -- The axes of a CTB of an accepted layout, for every plane, and its pieces along them. Assumes nothing.
-use mathlib.Core.Path.{_≡_}
+use mathlib.Core.Path.{_≡_, refl}
 use mathlib.Core.Bool.{true, false}
 use mathlib.Core.List.{List}
 use Prim.Native.Nat.{ℕ, _≤_}
@@ -10,41 +10,43 @@ use Rattle.alf_spec.specs.declared.Sides.{Sides}
 use Rattle.alf_spec.specs.Input.{Layout}
 use Rattle.alf_spec.specs.Geometry.{ctbSize, planeOf}
 use Rattle.alf_spec.specs.Boundary.{columnDisabled, rowDisabled}
-use Rattle.alf_spec.specs.Faults.{sizeValid, pictureSizeValid, ctbSizeValid, virtualListValid, virtualBoundariesValid}
-use Rattle.alf_spec.proofs.Tests.{both}
+use Rattle.alf_spec.specs.Faults.{sizeValid, ctbSizeValid, virtualListValid}
+use Rattle.alf_spec.proofs.Accepted.{Accepted, sizes-valid, lists-valid}
 use Rattle.alf_spec.proofs.Axes.{Regular, regular}
 use Rattle.alf_spec.proofs.IsolatedRegions.Ratios.{Ratio}
 use Rattle.alf_math.specs.Grids.{GridOf}
 use Rattle.alf_math.proofs.Grids.{ctb-bounds}
 use Rattle.alf_boundary.specs.Clips.{axisOf}
+use Rattle.alf_boundary.specs.Tables.{SidesOf}
 use Rattle.alf_pieces.specs.declared.pieces.Piece.{Piece}
 use Rattle.alf_pieces.specs.Pieces.{either, PieceOf, CtbOf}
 use Rattle.alf_pieces.proofs.PieceFacts.{Facts, piece-facts}
 use Rattle.alf_pieces.proofs.PieceWalk.{same-piece}
 
+pub ctb-accepted : {l : Layout} → Accepted l → {c : Ctb} {s : Sides} → SidesOf l c s → CtbOf l (l .picture) c s
+ctb-accepted ok sides = record { picture = refl; sizes = ok .sizes; ctbSize = ok .ctbSize; virtualBoundaries = ok .virtualBoundaries; sides = sides }
+
 module _ {l : Layout} {p : Picture} {c : Ctb} {s : Sides} (ctb : CtbOf l p c s) where
   sizes : (sizeValid (l .picture .width) ≡ true) × (sizeValid (l .picture .height) ≡ true)
-  unfolding pictureSizeValid
-  sizes = both (sizeValid (l .picture .width)) _ (rw (ctb .picture) (ctb .sizes))
+  sizes = sizes-valid (l .picture) (rw (ctb .picture) (ctb .sizes))
 
   log2 : ctbSizeValid (l .picture) ≡ true
   log2 = rw (ctb .picture) (ctb .ctbSize)
 
   boundaries : (virtualListValid (l .picture .width) (ctbSize (l .picture)) (l .virtualColumns) ≡ true)
       × (virtualListValid (l .picture .height) (ctbSize (l .picture)) (l .virtualRows) ≡ true)
-  unfolding virtualBoundariesValid
-  boundaries = both (virtualListValid (l .picture .width) (ctbSize (l .picture)) (l .virtualColumns)) _ (ctb .virtualBoundaries)
+  boundaries = lists-valid l (ctb .virtualBoundaries)
 
   small : ctbSize (l .picture) ≤ 128
   small = rw (ctb .picture) (ctb-bounds p (ctb .sizes) (ctb .ctbSize) .1)
 
   -- in a plane with these ratios to luma
   module _ (columnRatio rowRatio : ℕ) where
-    pub regular-across : Regular (planeOf l columnRatio rowRatio .columns)
+    regular-across : Regular (planeOf l columnRatio rowRatio .columns)
     unfolding planeOf
     regular-across = regular (l .picture) log2 (l .picture .width) (l .virtualColumns) false columnRatio (sizes .0) (boundaries .0)
 
-    pub regular-down : Regular (planeOf l columnRatio rowRatio .rows)
+    regular-down : Regular (planeOf l columnRatio rowRatio .rows)
     unfolding planeOf
     regular-down = regular (l .picture) log2 (l .picture .height) (l .virtualRows) true rowRatio (sizes .1) (boundaries .1)
 

@@ -1,31 +1,36 @@
--- The samples of a CTB, of every plane: they are a rectangle, and the CTBs of the picture, one after the other, are the whole plane. Assumes nothing.
-use mathlib.Core.Path.{_≡_, sym, ap, _∙_}
+-- The samples of a CTB, of every plane: they are a rectangle, and the CTBs of the picture, one after the other, are the whole plane, and so they
+-- are written. Assumes nothing.
+use mathlib.Core.Path.{_≡_, refl, sym, ap, _∙_}
 use mathlib.Core.Bool.{Bool, true, false, _||_}
 use mathlib.Core.Logic.{inl, inr, ⊎-elim}
+use mathlib.Core.List.{List}
 use Prim.Native.Nat.{ℕ, suc, _+_, _*_, _/_, _%_, _≤_, _<_, min}
 use native.Mathlib.Nat.{mul-le-mul-right, le-of-suc-le-suc, div-add-mod'}
 use native.Mathlib.Omega.{arith}
 use lib.Dec.{eqb, ltb}
+use lib.ListN.{length}
 use borrow.Author.Tests.{ltb-true, eqb-true, lt-ltb, eq-eqb}
 use Rattle.alf_spec.specs.declared.Ctb.{Ctb}
 use Rattle.alf_spec.specs.declared.Grid.{Grid}
+use Rattle.alf_spec.specs.Lists.{tabulate, painted}
 use Rattle.alf_spec.specs.Input.{Layout}
 use Rattle.alf_spec.specs.Geometry.{Axis, Plane, samples, lumaPosition, planeOf, planeLength, columnOf, rowOf, ctbAt, address, ctbColumns, ctbRows, ctbTotal}
-use Rattle.alf_spec.proofs.Tests.{same-test}
+use Rattle.alf_spec.proofs.Tests.{never, same-test, one-of}
 use Rattle.alf_spec.proofs.Planes.{place-column, place-row, column-below, row-below, address-below}
 use Rattle.alf_spec.proofs.Accepted.{Accepted}
 use Rattle.alf_spec.proofs.Axes.{Regular, lower, upper, ctb-of, not-gt, regular-columns, regular-rows}
 use Rattle.alf_spec.proofs.IsolatedRegions.Ratios.{own-le, lt-own}
 use Rattle.alf_spec.proofs.IsolatedRegions.Steps.{ctb-below}
 use Rattle.alf_math.specs.Grids.{GridOf}
-use Rattle.alf_math.proofs.Grids.{grid-columns}
+use Rattle.alf_math.proofs.Grids.{grid-columns, grid-total}
 use Rattle.alf_pieces.specs.Regions.{inRect}
 use Rattle.alf_pieces.specs.Pieces.{ctbLimit}
-use Rattle.alf_pieces.proofs.Regions.{one-of, never, order, in-rect, rect-facts}
 use Rattle.alf_pieces.specs.CtbRegions.{addressAt, ofCtb, beforeCtb}
+use Rattle.alf_pieces.proofs.Painted.{Paint, paint-is, paint-of, paint-same, paint-all}
+use Rattle.alf_pieces.proofs.Regions.{order, in-rect, rect-facts}
 
 -- a multiple of 8 is a whole number of the plane's own samples: ratios of 1, 2, 4 and 8
-abbrev pub Whole : ℕ → Type 0
+abbrev Whole : ℕ → Type 0
 Whole ratio = (b : ℕ) → b % 8 ≡ 0 → b / ratio * ratio ≡ b
 
 -- ---- along one axis
@@ -41,7 +46,7 @@ module _ (a : Axis) (ok : Regular a) (q : ℕ) where
 
   -- the samples of the CTB at place q
   module _ (whole : Whole (a .ratio)) (x : ℕ) where
-    pub ctb-range : x < samples a → lumaPosition a x / a .ctb ≡ q → (q * a .ctb / a .ratio ≤ x) × (x < ctbLimit a q / a .ratio)
+    ctb-range : x < samples a → lumaPosition a x / a .ctb ≡ q → (q * a .ctb / a .ratio ≤ x) × (x < ctbLimit a q / a .ratio)
     ctb-range h e =
         let low : q * a .ctb ≤ lumaPosition a x = rw e at (lower a (lumaPosition a x)) in
         let high : lumaPosition a x < q * a .ctb + a .ctb = rw e at (upper a ok (lumaPosition a x)) in
@@ -52,7 +57,7 @@ module _ (a : Axis) (ok : Regular a) (q : ℕ) where
               absurd (omega (arith, whole (ctbLimit a q) limit8))),
         )
 
-    pub range-ctb : (q * a .ctb / a .ratio ≤ x) → (x < ctbLimit a q / a .ratio) → lumaPosition a x / a .ctb ≡ q
+    range-ctb : (q * a .ctb / a .ratio ≤ x) → (x < ctbLimit a q / a .ratio) → lumaPosition a x / a .ctb ≡ q
     range-ctb low high =
         let from : q * a .ctb / a .ratio * a .ratio ≤ lumaPosition a x = mul-le-mul-right (a .ratio) low in
         let upto = lt-own (a .ratio) (ctbLimit a q) x high in
@@ -75,7 +80,7 @@ module _ (l : Layout) (ok : Accepted l) (ratio : ℕ) (whole : Whole ratio) wher
     row-in = ctb-below (plane .rows) (regular-rows l ok ratio ratio) _ (lt-own ratio _ _ (row-below plane i h))
 
     -- it lies in one of the picture's CTBs
-    pub every-ctb : beforeCtb l plane (ctbTotal l) i ≡ true
+    every-ctb : beforeCtb l plane (ctbTotal l) i ≡ true
     unfolding beforeCtb
     every-ctb = lt-ltb _ _ (address-below l (ctbAt plane (columnOf plane i) (rowOf plane i)) column-in row-in)
 
@@ -110,17 +115,29 @@ module _ (l : Layout) (ok : Accepted l) (ratio : ℕ) (whole : Whole ratio) wher
           let row : own .row ≡ k / ctbColumns l = range-ctb (plane .rows) (regular-rows l ok ratio ratio) _ whole _ (f .2) (f .3) in
           rw (column, row) (div-add-mod' k (ctbColumns l))
 
-      pub ctb-rectangle : ofCtb l plane k i ≡ rectangle i
+      ctb-rectangle : ofCtb l plane k i ≡ rectangle i
       unfolding ofCtb
       ctb-rectangle = same-test (eqb (address l own) k) (rectangle i) (λ t. to-rectangle (eqb-true _ k t)) (λ t. eq-eqb _ k (from-rectangle t))
 
       -- by the numbers of the picture's grid, as code has it
-      pub grid-rectangle : (g : Grid) → GridOf (l .picture) g
+      grid-rectangle : (g : Grid) → GridOf (l .picture) g
           → ofCtb l plane k i ≡ inRect (l .picture .width / ratio)
           (k % g .columns * g .ctb / ratio) (min (k % g .columns * g .ctb + g .ctb) (l .picture .width) / ratio)
           (k / g .columns * g .ctb / ratio) (min (k / g .columns * g .ctb + g .ctb) (l .picture .height) / ratio) i
       unfolding planeOf
       grid-rectangle g grid = rw (grid-columns l g grid, grid .ctb) ctb-rectangle
+
+  -- a list of the plane's length
+  module _ (xs : List ℕ) (size : length xs ≡ planeLength plane) {g : Grid} (grid : GridOf (l .picture) g) (v : ℕ → ℕ) where
+    -- the rectangle that code writes is the CTB
+    pub ctb-painted : (k : ℕ) {ys : List ℕ} → ys ≡ painted xs (inRect (l .picture .width / ratio)
+        (k % g .columns * g .ctb / ratio) (min (k % g .columns * g .ctb + g .ctb) (l .picture .width) / ratio)
+        (k / g .columns * g .ctb / ratio) (min (k / g .columns * g .ctb + g .ctb) (l .picture .height) / ratio)) v → ys ≡ painted xs (ofCtb l plane k) v
+    ctb-painted k e = paint-is (paint-same (paint-of e) (λ i h. grid-rectangle i (omega (arith, size)) k g grid) (λ i h t. refl))
+
+    -- all CTBs are written
+    pub all-painted : {k : ℕ} {ys : List ℕ} → Paint xs (beforeCtb l plane k) v ys → k ≡ g .columns * g .rows → ys ≡ tabulate (planeLength plane) v
+    all-painted P all = rw size at (paint-all P (λ i h. rw (all ∙ grid-total l g grid) (every-ctb i (omega (arith, size)))))
 
 -- the CTBs before the first, and before the next
 pub no-ctb : (l : Layout) (g : Plane) (i : ℕ) → beforeCtb l g 0 i ≡ false

@@ -1,37 +1,13 @@
 -- The next boundary after a position is the least of the boundaries after it, or the end that was given. Assumes nothing.
 use mathlib.Core.Path.{_≡_, refl, _∙_}
 use mathlib.Core.Logic.{_⊎_, inl, inr, ⊎-elim}
-use mathlib.Core.Bool.{Bool, true, false, _&&_, _||_, cond, or-true, false≢true}
+use mathlib.Core.Bool.{Bool, true, false, _&&_, cond}
 use mathlib.Core.List.{List, [], _∷_, List·Memᴰ, List·Memᴰ·head, List·Memᴰ·tail, List·Memᴰ·not-nil, List·Memᴰ·cases-cons}
 use Prim.Native.Nat.{ℕ, _≤_, _<_}
-use native.Mathlib.Decide.{ℕ-discrete}
 use native.Mathlib.Omega.{arith}
-use lib.Dec.{eqb, ltb}
-use borrow.Author.Tests.{ltb-true, ltb-false, eq-eqb, ne-eqb}
-use Rattle.alf_spec.specs.Lists.{elem}
+use lib.Dec.{ltb}
+use borrow.Author.Tests.{ltb-true, ltb-false}
 use Rattle.alf_pieces.specs.Pieces.{nearer, nextBoundary}
-
--- ---- what stands in a list, and the test of it
-
-pub mem-elem : (v : ℕ) (us : List ℕ) → List·Memᴰ v us → elem v us ≡ true
-unfolding elem
-mem-elem v [] m = absurd (List·Memᴰ·not-nil m)
-mem-elem v (u ∷ us) m = pick (λ w. mem-elem v us w) (List·Memᴰ·cases-cons m)
-  where
-    pick : (List·Memᴰ v us → elem v us ≡ true) → (v ≡ u) ⊎ List·Memᴰ v us → (eqb v u || elem v us) ≡ true
-    pick f (inl q) = simp (eq-eqb v u q)
-    pick f (inr w) = simp (f w, or-true)
-
-pub elem-mem : (v : ℕ) (us : List ℕ) → elem v us ≡ true → List·Memᴰ v us
-unfolding elem
-elem-mem v [] q = absurd (false≢true q)
-elem-mem v (u ∷ us) q = pick (λ e. elem-mem v us e) (ℕ-discrete v u)
-  where
-    pick : (elem v us ≡ true → List·Memᴰ v us) → Dec (v ≡ u) → List·Memᴰ v (u ∷ us)
-    pick f (yes e) = List·Memᴰ·head e
-    pick f (no n) = List·Memᴰ·tail (f (rw (ne-eqb v u n) at q))
-
--- ---- the least boundary
 
 -- of the boundaries in P that lie after x and before `end`, r is the first, or there is none and r is `end`
 pub record Least (P : ℕ → Type 0) (x end r : ℕ) : Type 0 where
@@ -41,7 +17,7 @@ pub record Least (P : ℕ → Type 0) (x end r : ℕ) : Type 0 where
   pub from : (r ≡ end) ⊎ P r
 
 -- the boundaries said in other words
-pub least-as : {P Q : ℕ → Type 0} {x end r : ℕ} → ((b : ℕ) → P b → Q b) → ((b : ℕ) → Q b → P b) → Least P x end r → Least Q x end r
+least-as : {P Q : ℕ → Type 0} {x end r : ℕ} → ((b : ℕ) → P b → Q b) → ((b : ℕ) → Q b → P b) → Least P x end r → Least Q x end r
 least-as f g l = record {
   more = l .more;
   most = l .most;

@@ -33,7 +33,8 @@ paint-of {xs} {ys} {p} {v} e = record {
 }
 
 -- the whole list is written
-pub paint-all : {xs ys : List ℕ} {p : ℕ → Bool} {v : ℕ → ℕ} → Paint xs p v ys → ((k : ℕ) → k < length xs → p k ≡ true) → ys ≡ tabulate (length xs) v
+pub paint-all : {xs ys : List ℕ} {p : ℕ → Bool} {v : ℕ → ℕ} → Paint xs p v ys
+    → ((k : ℕ) → k < length xs → p k ≡ true) → ys ≡ tabulate (length xs) v
 paint-all {xs} {ys} {p} {v} P h =
     ext-getD 0 ys (tabulate (length xs) v) (P .len ∙ sym (tabulate-length (length xs) v)) (λ k l.
     let below : k < length xs = omega (arith, P .len) in
@@ -44,7 +45,8 @@ paint-all {xs} {ys} {p} {v} P h =
 pub paint-in : {xs ys : List ℕ} {p : ℕ → Bool} {v : ℕ → ℕ} → Paint xs p v ys → (k : ℕ) → k < length xs → p k ≡ true → getD ys k 0 ≡ v k
 paint-in P k h e = P .at k h ∙ rw e
 
-pub paint-out : {xs ys : List ℕ} {p : ℕ → Bool} {v : ℕ → ℕ} → Paint xs p v ys → (k : ℕ) → k < length xs → p k ≡ false → getD ys k 0 ≡ getD xs k 0
+pub paint-out : {xs ys : List ℕ} {p : ℕ → Bool} {v : ℕ → ℕ} → Paint xs p v ys
+    → (k : ℕ) → k < length xs → p k ≡ false → getD ys k 0 ≡ getD xs k 0
 paint-out P k h e = P .at k h ∙ rw e
 
 -- ---- how it grows
@@ -72,7 +74,7 @@ paint-call {xs} {ys} {zs} {p} {q} {v} r w P e agree grows =
     }
 
 -- a store writes one entry
-pub store : (xs : List ℕ) (j w : ℕ) (v : ℕ → ℕ) → j < length xs → w ≡ v j → Paint xs (eqb j) v (set xs j w)
+store : (xs : List ℕ) (j w : ℕ) (v : ℕ → ℕ) → j < length xs → w ≡ v j → Paint xs (eqb j) v (set xs j w)
 store xs j w v h e = record { len = length-set xs j w; at = λ k l. here k (ℕ-discrete j k) }
   where
     here : (k : ℕ) → Dec (j ≡ k) → getD (set xs j w) k 0 ≡ cond (eqb j k) (v k) (getD xs k 0)
@@ -83,6 +85,15 @@ store xs j w v h e = record { len = length-set xs j w; at = λ k l. here k (ℕ-
 pub paint-set : {xs ys : List ℕ} {p q : ℕ → Bool} {v : ℕ → ℕ} (j w : ℕ) → Paint xs p v ys → j < length ys → w ≡ v j
     → ((k : ℕ) → k < length xs → q k ≡ (p k || eqb j k)) → Paint xs q v (set ys j w)
 paint-set {ys = ys} {v = v} j w P h e grows = paint-call (eqb j) v P (paint-is (store ys j w v h e)) (λ k l r. refl) grows
+
+-- the same part written once more, by what stands there
+pub paint-again : {xs ys zs : List ℕ} {p : ℕ → Bool} {v w u : ℕ → ℕ} → Paint xs p v ys → Paint ys p w zs
+    → ((k : ℕ) → k < length xs → p k ≡ true → w k ≡ u k) → Paint xs p u zs
+paint-again {xs} {ys} {zs} {p} {v} {w} {u} P Q agree = record { len = Q .len ∙ P .len; at = λ k h. Q .at k (omega (arith, P .len)) ∙ pick k h (p k) refl }
+  where
+    pick : (k : ℕ) → k < length xs → (b : Bool) → p k ≡ b → cond b (w k) (getD ys k 0) ≡ cond b (u k) (getD xs k 0)
+    pick k h true e = agree k h e
+    pick k h false e = paint-out P k h e
 
 -- the same part, by another test and other values
 pub paint-same : {xs ys : List ℕ} {p q : ℕ → Bool} {v w : ℕ → ℕ} → Paint xs p v ys → ((k : ℕ) → k < length xs → q k ≡ p k)

@@ -13,12 +13,12 @@ use Rattle.alf_spec.specs.Lists.{elem}
 use Rattle.alf_spec.specs.Geometry.{Side, before, after, Axis}
 use Rattle.alf_spec.specs.Boundary.{clipPosition}
 use Rattle.alf_spec.proofs.Tests.{neither}
+use Rattle.alf_spec.proofs.Lists.{mem-elem, elem-mem}
 use Rattle.alf_spec.proofs.Axes.{Regular}
 use Rattle.alf_spec.proofs.IsolatedRegions.Reach.{Reach}
 use Rattle.alf_spec.proofs.IsolatedRegions.PastCtb.{Between}
 use Rattle.alf_spec.proofs.IsolatedRegions.ClipPositions.{Ends, stops, runs, Near, bound, Rule, line-rule, virtual-rule, side-rule, Found, Clear, clip-found}
 use Rattle.alf_pieces.specs.Pieces.{ctbSide, ctbLimit, cutAt, Begins, at-side, at-boundary, at-line}
-use Rattle.alf_pieces.proofs.NextBoundary.{mem-elem, elem-mem}
 use Rattle.alf_pieces.proofs.PieceEnds.{Inner, Span, start4, end4}
 
 -- the end of a piece on that side
@@ -36,7 +36,7 @@ pub data Meets (d : Side) (b x u : ℕ) : Option ℕ → Bool → Type 0 where
 
 module _ (a : Axis) (ok : Regular a) (disabled : Side → Bool) (x : ℕ) where
   -- an end that is not cut
-  abbrev pub Open : Side → ℕ → Type 0
+  abbrev Open : Side → ℕ → Type 0
   Open d b = (b ≡ bound a d x) × (elem b (a .virtualBoundaries) ≡ false) × (disabled d ≡ false)
 
   bound-side : (d : Side) → ctbSide a d (x / a .ctb) ≡ bound a d x

@@ -7,10 +7,11 @@ use mathlib.Core.List.{List·Memᴰ}
 use Prim.Native.Nat.{ℕ, _+_, _*_, _%_, _≤_, _<_}
 use native.Mathlib.Omega.{arith}
 use Rattle.alf_spec.specs.Geometry.{before, Axis}
+use Rattle.alf_spec.proofs.Lists.{mem-elem, elem-mem}
 use Rattle.alf_spec.proofs.Axes.{Regular, ctb-of}
 use Rattle.alf_spec.proofs.IsolatedRegions.ClipPositions.{bound4}
 use Rattle.alf_pieces.specs.Pieces.{nearer, ctbLimit, ctbLine, pieceEnd, Begins, at-side, at-boundary, at-line}
-use Rattle.alf_pieces.proofs.NextBoundary.{mem-elem, elem-mem, Least, least-or, nearer-least, next-least}
+use Rattle.alf_pieces.proofs.NextBoundary.{Least, least-or, nearer-least, next-least}
 
 -- where a piece may end within the CTB at place q: at its line-buffer boundary, at a virtual boundary
 abbrev pub Inner : Axis → ℕ → ℕ → Type 0

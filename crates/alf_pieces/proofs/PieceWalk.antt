@@ -8,14 +8,14 @@ use native.Mathlib.Omega.{arith}
 use Rattle.alf_spec.specs.declared.Picture.{Picture}
 use Rattle.alf_spec.specs.declared.Grid.{Grid}
 use Rattle.alf_spec.specs.Geometry.{Side, before, after, Axis, ctbSize, lumaPosition}
-use Rattle.alf_spec.specs.Faults.{sizeValid, pictureSizeValid, ctbSizeValid, virtualListValid}
-use Rattle.alf_spec.proofs.Tests.{both}
+use Rattle.alf_spec.specs.Faults.{pictureSizeValid, ctbSizeValid, virtualListValid}
+use Rattle.alf_spec.proofs.Accepted.{sizes-valid}
 use Rattle.alf_spec.proofs.Axes.{Regular, regular}
 use Rattle.alf_spec.proofs.IsolatedRegions.Ratios.{Ratio, whole, half, lt-own}
 use Rattle.alf_math.specs.Grids.{GridOf}
 use Rattle.alf_boundary.specs.Clips.{axisOf}
 use Rattle.alf_pieces.specs.declared.pieces.Piece.{Piece}
-use Rattle.alf_pieces.specs.Pieces.{ctbLimit, cutAt, pieceAt, Begins, at-side, PieceOf}
+use Rattle.alf_pieces.specs.Pieces.{ctbLimit, cutAt, pieceAt, Begins, at-side, PieceOf, BlockPiece}
 use Rattle.alf_pieces.proofs.PieceFacts.{Facts, piece-facts}
 
 -- ---- the loop
@@ -44,10 +44,6 @@ walk-done {a} {q} {x} ratio w h = le-antisymm (own (a .ratio) ratio (ctbLimit a 
     own _ whole b l = omega arith
     own _ half b l = omega arith
 
--- the loop's measure
-pub less-by : {end x start next : ℕ} → x < end → start ≡ x → start < next → end - next < end - x
-less-by h e l = omega arith
-
 -- what a turn of the loop finds: the piece p that begins at x
 pub record Turn (a : Axis) (disabled : Side → Bool) (q x : ℕ) (p : Piece) : Type 0 where
   pub start : p .start ≡ x
@@ -62,17 +58,26 @@ turn {a} {disabled} {q} {x} {p} ok ratio small w h e =
     rw e record { from = w .from; upto = lt-own (a .ratio) (ctbLimit a q) x h; begins = w .begins (lt-own (a .ratio) (ctbLimit a q) x h); is = refl } in
     record { start = ap (λ (p : Piece). p .start) e; piece = piece; facts = piece-facts a ok ratio small disabled q p piece }
 
+-- the loop's measure
+pub turn-less : {a : Axis} {disabled : Side → Bool} {q x end : ℕ} {p : Piece} → Turn a disabled q x p → x < end → end - p .end < end - x
+turn-less t h = omega (arith, t .start, t .facts .numbers .filled)
+
+-- in the luma plane, a piece of whole blocks
+pub block-piece : {n ctb : ℕ} {list : List ℕ} {line : Bool} {disabled : Side → Bool} {q : ℕ} {p : Piece}
+    → Facts (axisOf n ctb list line 1) disabled q p → BlockPiece n p
+block-piece {n = n} {p = p} f =
+    let own : n / 1 ≡ n = omega arith in
+    record { numbers = rw own at (f .numbers); start4 = omega (arith, f .start4); end4 = omega (arith, f .end4) }
+
 -- ---- its axis
 
 -- the axes of an accepted picture, as code has them
 module _ {p : Picture} {g : Grid} (grid : GridOf p g) (sizes : pictureSizeValid p ≡ true) (log2 : ctbSizeValid p ≡ true) {list : List ℕ} where
   pub columns-regular : virtualListValid (p .width) (ctbSize p) list ≡ true → (ratio : ℕ) → Regular (axisOf (p .width) (g .ctb) list false ratio)
-  unfolding pictureSizeValid
-  columns-regular valid ratio = rw (grid .ctb) (regular p log2 (p .width) list false ratio (both (sizeValid (p .width)) _ sizes .0) valid)
+  columns-regular valid ratio = rw (grid .ctb) (regular p log2 (p .width) list false ratio (sizes-valid p sizes .0) valid)
 
   pub rows-regular : virtualListValid (p .height) (ctbSize p) list ≡ true → (ratio : ℕ) → Regular (axisOf (p .height) (g .ctb) list true ratio)
-  unfolding pictureSizeValid
-  rows-regular valid ratio = rw (grid .ctb) (regular p log2 (p .height) list true ratio (both (sizeValid (p .width)) _ sizes .1) valid)
+  rows-regular valid ratio = rw (grid .ctb) (regular p log2 (p .height) list true ratio (sizes-valid p sizes .1) valid)
 
 -- the same piece, of an axis and sides given otherwise
 pub same-piece : {a b : Axis} {disabled given : Side → Bool} {q : ℕ} {p : Piece} → a ≡ b → given before ≡ disabled before → given after ≡ disabled after

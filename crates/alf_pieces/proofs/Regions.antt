@@ -1,29 +1,16 @@
 -- Runs of a list and rectangles of a plane: their tests as facts, and how they grow. Assumes nothing.
-use mathlib.Core.Path.{_≡_, refl, sym, ap}
-use mathlib.Core.Bool.{Bool, true, false, true≢false, _&&_, _||_}
+use mathlib.Core.Path.{_≡_, ap}
+use mathlib.Core.Bool.{true, false, _&&_, _||_}
 use mathlib.Core.Logic.{_⊎_, inl, inr, ⊎-elim}
 use Prim.Native.Nat.{ℕ, _+_, _*_, _-_, _/_, _%_, _≤_, _<_}
-use native.Mathlib.Nat.{div-add-mod', mul-le-mul-right}
+use native.Mathlib.Nat.{zero-add, div-add-mod', mul-le-mul-right}
 use native.Mathlib.Omega.{arith}
 use native.Mathlib.Decide.{decLt}
 use lib.Arith.{digits-div, digits-mod}
 use lib.Dec.{eqb, leb, ltb}
 use borrow.Author.Tests.{ltb-true, leb-true, eqb-true, lt-ltb, le-leb, eq-eqb}
-use Rattle.alf_spec.proofs.Tests.{both, same-test}
+use Rattle.alf_spec.proofs.Tests.{both, never, same-test, one-of}
 use Rattle.alf_pieces.specs.Regions.{between, inRect}
-
--- ---- tests
-
--- q is `p or r`
-pub one-of : (q p r : Bool) → (p ≡ true → q ≡ true) → (r ≡ true → q ≡ true) → (q ≡ true → (p ≡ true) ⊎ (r ≡ true)) → q ≡ (p || r)
-one-of q true r f g h = f refl
-one-of q false true f g h = g refl
-one-of q false false f g h = same-test q false (λ t. ⊎-elim (λ e. e) (λ e. e) (h t)) (λ t. absurd (true≢false (sym t)))
-
--- a test that can't pass
-pub never : (q : Bool) → (q ≡ true → ⊥) → q ≡ false
-never true f = absurd (f refl)
-never false f = refl
 
 -- a case by an order
 pub order : (a b : ℕ) → (a < b) ⊎ (b ≤ a)
@@ -54,13 +41,7 @@ run-more f i k =
 
 -- the same from 0 on, where code has no sum
 pub run-next : (i k : ℕ) → between 0 (i + 1) k ≡ (between 0 i k || eqb i k)
-run-next i k =
-    one-of (between 0 (i + 1) k) (between 0 i k) (eqb i k)
-    (λ t. let h = run-facts 0 i k t in in-run 0 (i + 1) k (omega arith))
-    (λ t. let e = eqb-true i k t in in-run 0 (i + 1) k (omega arith))
-    (λ t.
-    let h = run-facts 0 (i + 1) k t in
-    ⊎-elim (λ l. inl (in-run 0 i k (omega arith))) (λ l. inr (eq-eqb i k (omega arith))) (order k i))
+run-next i k = rw zero-add at (run-more 0 i k)
 
 -- a run is two runs, one after the other
 pub run-join : (f n g a h b : ℕ) → (f ≡ g) × (g + a ≡ h) × (f + n ≡ h + b) → (k : ℕ) → between f n k ≡ (between g a k || between h b k)
@@ -132,7 +113,7 @@ pub row-room : (y y′ columns n : ℕ) → y < y′ → y′ * columns ≤ n �
 row-room y y′ columns n h room = let z = mul-le-mul-right columns h in omega arith
 
 -- a rectangle of one row is a run
-pub rect-row : (columns x n y : ℕ) → x + n ≤ columns → (k : ℕ) → inRect columns x (x + n) y (y + 1) k ≡ between (y * columns + x) n k
+rect-row : (columns x n y : ℕ) → x + n ≤ columns → (k : ℕ) → inRect columns x (x + n) y (y + 1) k ≡ between (y * columns + x) n k
 rect-row columns x n y fits k =
     same-test (inRect columns x (x + n) y (y + 1) k) (between (y * columns + x) n k)
     (λ t.

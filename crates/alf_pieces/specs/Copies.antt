@@ -24,6 +24,10 @@ pitch p = extent p + 6
 abbrev pub copyLength : Piece → Piece → ℕ
 copyLength columns rows = pitch rows * pitch columns
 
+-- at most 134 by 134 of them
+abbrev pub area : ℕ
+area = 17956
+
 module _ (columns rows : Piece) (s : Sides) where
   -- the plane's row that stands in row j of the copy
   unfoldable pub copyRow : ℕ → ℕ

@@ -3,7 +3,7 @@
 use mathlib.Core.Path.{_≡_}
 use mathlib.Core.Bool.{Bool, true, not, _&&_, _||_, cond}
 use mathlib.Core.List.{List, [], _∷_}
-use Prim.Native.Nat.{ℕ, _+_, _-_, _*_, _/_, _≤_, _<_, min}
+use Prim.Native.Nat.{ℕ, _+_, _-_, _*_, _/_, _%_, _≤_, _<_, min}
 use lib.Dec.{eqb, ltb}
 use Rattle.alf_spec.specs.declared.Picture.{Picture}
 use Rattle.alf_spec.specs.declared.Ctb.{Ctb}
@@ -85,6 +85,12 @@ pub record PieceIn (n : ℕ) (p : Piece) : Type 0 where
   pub high : p .end ≤ p .limit
   pub inside : p .limit ≤ n
   pub small : p .end ≤ p .start + 128
+
+-- a piece of whole 4 by 4 blocks, along n samples of the luma plane
+pub record BlockPiece (n : ℕ) (p : Piece) : Type 0 where
+  pub numbers : PieceIn n p
+  pub start4 : p .start % 4 ≡ 0
+  pub end4 : p .end % 4 ≡ 0
 
 -- the CTB c of a layout l, whose picture p and virtual boundaries are accepted, has the sides s
 pub record CtbOf (l : Layout) (p : Picture) (c : Ctb) (s : Sides) : Type 0 where

@@ -24,7 +24,7 @@ fn held(lowest: usize, limit: usize, p: usize) -> usize
 }
 
 // The samples of a piece along its axis.
-fn extent(piece: Piece) -> usize
+pub fn extent(piece: Piece) -> usize
     requires { ⌜ piece .start ≤ piece .end ⌝ }
     ensures { λ r. ⌜ r ≡ extentOf piece ⌝ }
 {
@@ -152,7 +152,7 @@ fn copy_row_of(
     );
 }
 
-// The copy of a piece of a plane of so many columns; the sides are its CTB's.
+// The copy of a piece of a plane of so many columns; the sides are its CTB's. `copy-reads` says that it holds the samples at padded positions.
 pub fn copy_piece(
     plane: &[u16],
     width: usize,

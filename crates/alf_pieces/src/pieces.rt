@@ -1,5 +1,5 @@
-// The pieces of a CTB along an axis. Clip positions change only at the CTB's sides, at virtual boundaries and at the line-buffer boundary, so
-// a CTB falls into a few pieces, and what a read is clamped to is found once for a piece.
+// The pieces of a CTB along an axis. A clip position is a side of the CTB, a virtual boundary or the line-buffer boundary; split at these, a CTB
+// falls into a few pieces, and all reads from the samples of a piece are clamped to one range, which is found once.
 ghost use mathlib.Core.Path.{_≡_};
 ghost use mathlib.Core.Bool.{true, false, not, _||_, cond};
 ghost use Prim.Native.Nat.{ℕ, _≤_, _<_};
@@ -106,7 +106,7 @@ fn piece_from(
     }
 }
 
-// The piece that begins at column x of a plane, in the CTB column q.
+// The piece that begins at column x of a plane, in the CTB column q. `piece-facts` says what that is to the samples in it.
 pub fn column_piece(
     picture: Picture,
     grid: Grid,

@@ -11,9 +11,9 @@ use borrow.Author.Tests.{ltb-true, leb-true, eqb-true, lt-ltb}
 use Rattle.alf_spec.specs.declared.Picture.{Picture}
 use Rattle.alf_spec.specs.Lists.{within, implies}
 use Rattle.alf_spec.specs.Input.{Layout, Operation, given, Input}
-use Rattle.alf_spec.specs.Geometry.{lumaPlane, chromaPlane, blockPlane, planeLength, ctbColumns, ctbRows, ctbTotal}
+use Rattle.alf_spec.specs.Geometry.{ctbSize, lumaPlane, chromaPlane, blockPlane, planeLength, ctbColumns, ctbRows, ctbTotal}
 use Rattle.alf_spec.specs.Process.{outputPlane}
-use Rattle.alf_spec.specs.Faults.{pictureSizeValid, ctbSizeValid, bitDepthValid, chromaFormatValid, componentValid, layoutLengthsValid, filterLengthsValid, fixedLengthsValid, lengthsValid, regionLengthValid, virtualBoundariesValid, tilesValid, slicesValid, subpicturesValid, regionValid, parametersValid, bankValid, fixedValid, samplesValid, unless, layoutFault, tablesFault, fault, isolationFault}
+use Rattle.alf_spec.specs.Faults.{sizeValid, pictureSizeValid, ctbSizeValid, bitDepthValid, chromaFormatValid, componentValid, layoutLengthsValid, filterLengthsValid, fixedLengthsValid, lengthsValid, regionLengthValid, virtualListValid, virtualBoundariesValid, tilesValid, slicesValid, subpicturesValid, regionValid, parametersValid, bankValid, fixedValid, samplesValid, unless, layoutFault, tablesFault, fault, isolationFault}
 use Rattle.alf_spec.proofs.Tests.{both, implied, every-entry}
 
 -- of a chain of tests that gives no number, the first passes, and what follows gives none
@@ -32,6 +32,16 @@ pub record Accepted (l : Layout) : Type 0 where
   pub tiles : tilesValid l ≡ true
   pub slices : slicesValid l ≡ true
   pub subpictures : subpicturesValid l ≡ true
+
+-- of the picture's sizes, and of the lists of virtual boundaries
+pub sizes-valid : (p : Picture) → pictureSizeValid p ≡ true → (sizeValid (p .width) ≡ true) × (sizeValid (p .height) ≡ true)
+unfolding pictureSizeValid
+sizes-valid p e = both (sizeValid (p .width)) (sizeValid (p .height)) e
+
+pub lists-valid : (l : Layout) → virtualBoundariesValid l ≡ true → (virtualListValid (l .picture .width) (ctbSize (l .picture)) (l .virtualColumns) ≡ true)
+    × (virtualListValid (l .picture .height) (ctbSize (l .picture)) (l .virtualRows) ≡ true)
+unfolding virtualBoundariesValid
+lists-valid l e = both (virtualListValid (l .picture .width) (ctbSize (l .picture)) (l .virtualColumns)) _ e
 
 -- the lengths that cause 5 asks of the layout's tables
 pub record TableLengths (l : Layout) : Type 0 where

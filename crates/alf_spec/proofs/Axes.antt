@@ -9,14 +9,14 @@ use native.Mathlib.Decide.{ℕ-discrete}
 use native.Mathlib.Omega.{arith}
 use lib.Dec.{eqb, leb}
 use lib.ListN.{length}
-use borrow.Author.Tests.{eqb-true, leb-true}
+use borrow.Author.Tests.{eqb-true}
 use Rattle.alf_spec.specs.declared.Picture.{Picture}
 use Rattle.alf_spec.specs.Lists.{within, allBelow, every}
 use Rattle.alf_spec.specs.Input.{Layout}
 use Rattle.alf_spec.specs.Geometry.{Axis, ctbSize, planeOf, ctbStart, inCtb}
-use Rattle.alf_spec.specs.Faults.{sizeValid, pictureSizeValid, ctbSizeValid, virtualPositionValid, apartAt, virtualListValid, virtualBoundariesValid}
-use Rattle.alf_spec.proofs.Tests.{both, every-mem}
-use Rattle.alf_spec.proofs.Accepted.{Accepted}
+use Rattle.alf_spec.specs.Faults.{sizeValid, ctbSizeValid, virtualPositionValid, apartAt, virtualListValid}
+use Rattle.alf_spec.proofs.Tests.{both, within-bounds, every-mem}
+use Rattle.alf_spec.proofs.Accepted.{Accepted, sizes-valid, lists-valid}
 
 pub not-gt : {a b : ℕ} → ¬ (b < a) → a ≤ b
 not-gt h = omega arith
@@ -67,8 +67,8 @@ virtual-of size s list q v m =
 ctb-sizes : (p : Picture) → ctbSizeValid p ≡ true → (8 ≤ ctbSize p) × (ctbSize p % 8 ≡ 0)
 unfolding ctbSizeValid ctbSize
 ctb-sizes p q =
-    let h = both (leb 5 (p .«ctb_log2»)) (leb (p .«ctb_log2») 7) q in
-    power (p .«ctb_log2») (leb-true 5 (p .«ctb_log2») (h .0)) (leb-true (p .«ctb_log2») 7 (h .1))
+    let h = within-bounds 5 7 (p .«ctb_log2») q in
+    power (p .«ctb_log2») (h .0) (h .1)
   where
     power : (n : ℕ) → 5 ≤ n → n ≤ 7 → (8 ≤ 2 ^ n) × (2 ^ n % 8 ≡ 0)
     power n lo hi =
@@ -89,15 +89,13 @@ regular p c size list line ratio s v = record {
 
 module _ (l : Layout) (ok : Accepted l) (columnRatio rowRatio : ℕ) where
   pub regular-columns : Regular (planeOf l columnRatio rowRatio .columns)
-  unfolding planeOf pictureSizeValid virtualBoundariesValid
+  unfolding planeOf
   regular-columns =
       regular (l .picture) (ok .ctbSize) (l .picture .width) (l .virtualColumns) false columnRatio
-      (both (sizeValid (l .picture .width)) _ (ok .sizes) .0)
-      (both (virtualListValid (l .picture .width) (ctbSize (l .picture)) (l .virtualColumns)) _ (ok .virtualBoundaries) .0)
+      (sizes-valid (l .picture) (ok .sizes) .0) (lists-valid l (ok .virtualBoundaries) .0)
 
   pub regular-rows : Regular (planeOf l columnRatio rowRatio .rows)
-  unfolding planeOf pictureSizeValid virtualBoundariesValid
+  unfolding planeOf
   regular-rows =
       regular (l .picture) (ok .ctbSize) (l .picture .height) (l .virtualRows) true rowRatio
-      (both (sizeValid (l .picture .width)) _ (ok .sizes) .1)
-      (both (virtualListValid (l .picture .width) (ctbSize (l .picture)) (l .virtualColumns)) _ (ok .virtualBoundaries) .1)
+      (sizes-valid (l .picture) (ok .sizes) .1) (lists-valid l (ok .virtualBoundaries) .1)

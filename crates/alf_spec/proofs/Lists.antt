@@ -1,11 +1,17 @@
--- Laws of the lists in `specs/Lists`: what stands in a table, and in a list with entries written anew. Assumes nothing.
-use mathlib.Core.Path.{_≡_, refl, ap}
-use mathlib.Core.Bool.{Bool, cond}
-use mathlib.Core.List.{List, [], _∷_, map}
-use Prim.Native.Nat.{ℕ, zero, suc, _<_, suc-le-suc}
+-- Laws of the lists in `specs/Lists`: what stands in a table, in a list with entries written anew, and in a list that is tested for it; and
+-- of sums. Assumes nothing.
+use mathlib.Core.Path.{_≡_, refl, ap, ap₂}
+use mathlib.Core.Bool.{Bool, true, false, cond, or-true, false≢true}
+use mathlib.Core.Logic.{⊎-elim, by-cases}
+use mathlib.Core.List.{List, [], _∷_, map, List·Memᴰ, List·Memᴰ·head, List·Memᴰ·tail, List·Memᴰ·not-nil, List·Memᴰ·cases-cons}
+use Prim.Native.Nat.{ℕ, zero, suc, _+_, _<_, suc-le-suc}
 use native.Mathlib.Nat.{not-suc-le-zero, le-of-suc-le-suc, zero-lt-suc}
+use native.Mathlib.Decide.{ℕ-discrete}
+use native.Mathlib.Omega.{arith}
 use lib.ListN.{length, getD}
-use Rattle.alf_spec.specs.Lists.{tabulate, painted}
+use borrow.Author.Tests.{eq-eqb, ne-eqb}
+use Rattle.alf_spec.specs.Lists.{elem, sumBelow, tabulate, painted}
+use Rattle.alf_spec.proofs.Tests.{never}
 
 pub tabulate-at : (n : ℕ) (f : ℕ → ℕ) (k : ℕ) → k < n → getD (tabulate n f) k 0 ≡ f k
 unfolding tabulate
@@ -17,6 +23,11 @@ pub tabulate-same : (n : ℕ) (f g : ℕ → ℕ) → ((k : ℕ) → k < n → f
 unfolding tabulate
 tabulate-same zero f g e = refl
 tabulate-same (suc n) f g e = λ t. e zero (zero-lt-suc n) t ∷ tabulate-same n (λ k. f (suc k)) (λ k. g (suc k)) (λ k h. e (suc k) (suc-le-suc h)) t
+
+pub sum-same : (n : ℕ) (f g : ℕ → ℕ) → ((k : ℕ) → k < n → f k ≡ g k) → sumBelow n f ≡ sumBelow n g
+unfolding sumBelow
+sum-same zero f g e = refl
+sum-same (suc n) f g e = ap₂ (λ (a b : ℕ). a + b) (sum-same n f g (λ k h. e k (omega arith))) (e n (omega arith))
 
 pub painted-at : (xs : List ℕ) (test : ℕ → Bool) (value : ℕ → ℕ) (k : ℕ) → k < length xs
     → getD (painted xs test value) k 0 ≡ cond (test k) (value k) (getD xs k 0)
@@ -34,6 +45,21 @@ pub painted-length : (xs : List ℕ) (test : ℕ → Bool) (value : ℕ → ℕ)
 unfolding painted
 painted-length [] test value = refl
 painted-length (x ∷ xs) test value = ap suc (painted-length xs (λ k. test (suc k)) (λ k. value (suc k)))
+
+-- ---- what stands in a list, and the test of it
+
+pub mem-elem : (v : ℕ) (us : List ℕ) → List·Memᴰ v us → elem v us ≡ true
+unfolding elem
+mem-elem v [] m = absurd (List·Memᴰ·not-nil m)
+mem-elem v (u ∷ us) m = ⊎-elim (λ q. simp (eq-eqb v u q)) (λ w. simp (mem-elem v us w, or-true)) (List·Memᴰ·cases-cons m)
+
+pub elem-mem : (v : ℕ) (us : List ℕ) → elem v us ≡ true → List·Memᴰ v us
+unfolding elem
+elem-mem v [] q = absurd (false≢true q)
+elem-mem v (u ∷ us) q = by-cases (ℕ-discrete v u) (λ e. List·Memᴰ·head e) (λ n. List·Memᴰ·tail (elem-mem v us (rw (ne-eqb v u n) at q)))
+
+pub no-elem : (v : ℕ) (us : List ℕ) → ¬ List·Memᴰ v us → elem v us ≡ false
+no-elem v us out = never (elem v us) (λ t. out (elem-mem v us t))
 
 -- ---- what holds of each entry
 

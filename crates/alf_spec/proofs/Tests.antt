@@ -2,12 +2,14 @@
 use mathlib.Core.Path.{_≡_, refl, sym, _∙_, ap}
 use mathlib.Core.Bool.{Bool, true, false, _&&_, _||_, cond, true≢false, false≢true}
 use mathlib.Core.List.{List, [], _∷_, List·Memᴰ, List·Memᴰ·not-nil, List·Memᴰ·cases-cons}
-use mathlib.Core.Logic.{⊎-elim}
-use Prim.Native.Nat.{ℕ, zero, suc, _+_, _<_, suc-le-suc}
+use mathlib.Core.Logic.{_⊎_, ⊎-elim}
+use Prim.Native.Nat.{ℕ, zero, suc, _+_, _≤_, _<_, suc-le-suc}
 use native.Mathlib.Nat.{add-zero, add-suc, suc-add, not-suc-le-zero, le-of-suc-le-suc, zero-lt-suc, eq-or-lt-of-le}
 use native.Mathlib.Omega.{arith}
+use lib.Dec.{leb}
 use lib.ListN.{length, getD}
-use Rattle.alf_spec.specs.Lists.{implies, allBelow, everyFrom}
+use borrow.Author.Tests.{leb-true}
+use Rattle.alf_spec.specs.Lists.{within, implies, allBelow, everyFrom}
 
 -- ---- connectives
 
@@ -38,16 +40,30 @@ pub imply : (a b : Bool) → (a ≡ true → b ≡ true) → implies a b ≡ tru
 imply true b f = f refl
 imply false b f = refl
 
+-- a test that can't pass
+pub never : (q : Bool) → (q ≡ true → ⊥) → q ≡ false
+never true f = absurd (f refl)
+never false f = refl
+
 -- two tests that pass in the same cases
 pub same-test : (a b : Bool) → (a ≡ true → b ≡ true) → (b ≡ true → a ≡ true) → a ≡ b
 same-test true b f g = sym (f refl)
 same-test false true f g = g refl
 same-test false false f g = refl
 
+-- q is `p or r`
+pub one-of : (q p r : Bool) → (p ≡ true → q ≡ true) → (r ≡ true → q ≡ true) → (q ≡ true → (p ≡ true) ⊎ (r ≡ true)) → q ≡ (p || r)
+one-of q true r f g h = f refl
+one-of q false true f g h = g refl
+one-of q false false f g h = never q (λ t. ⊎-elim false≢true false≢true (h t))
+
 -- what holds of both branches
 pub cond-either : {A : Type 0} (P : A → Type 0) (b : Bool) (x y : A) → P x → P y → P (cond b x y)
 cond-either P true x y p q = p
 cond-either P false x y p q = q
+
+pub within-bounds : (low high n : ℕ) → within low high n ≡ true → (low ≤ n) × (n ≤ high)
+within-bounds low high n e = let h = both (leb low n) (leb n high) e in (leb-true low n (h .0), leb-true n high (h .1))
 
 -- ---- every number, every entry
 

@@ -129,7 +129,7 @@ module _ (a : Axis) (ok : Regular a) (x : ℕ) where
   bound4 before = start4
   bound4 after = omega (arith, start4, ok .ctb8)
 
-  pub line4 : linePosition a x % 4 ≡ 0
+  line4 : linePosition a x % 4 ≡ 0
   line4 = omega (arith, start4, ok .ctb8, ok .big)
 
   side-near : (d : Side) (n : ℕ) → n ≤ sideLimit d → sideTest a d x n ≡ true → Near d x (bound a d x)

@@ -25,7 +25,7 @@ leaves a ok before x u t ne =
 leaves a ok after x u t ne = (upper a ok x, past-end a x u t ne)
 
 -- u stands past the boundary b
-abbrev pub Beyond : Side → ℕ → ℕ → Type 0
+abbrev Beyond : Side → ℕ → ℕ → Type 0
 Beyond before b u = u < b
 Beyond after b u = b ≤ u
 

@@ -1,8 +1,8 @@
 -- Steps along one axis: when a step is open, and to which CTB it leads. Assumes nothing.
-use mathlib.Core.Path.{_≡_, refl, sym, ap}
+use mathlib.Core.Path.{_≡_, sym, ap}
 use mathlib.Core.Logic.{_≢_, by-cases}
 use mathlib.Core.Bool.{Bool, true, false, not, _||_}
-use mathlib.Core.List.{List, [], _∷_, List·Memᴰ, List·Memᴰ·head, List·Memᴰ·tail}
+use mathlib.Core.List.{List·Memᴰ}
 use Prim.Native.Nat.{ℕ, zero, suc, pred, _/_, _<_}
 use native.Mathlib.Nat.{le-div-iff-mul-le, not-suc-le-zero}
 use native.Mathlib.Decide.{ℕ-discrete}
@@ -13,6 +13,7 @@ use Rattle.alf_spec.specs.Lists.{elem}
 use Rattle.alf_spec.specs.Geometry.{Side, before, after, next, gap, hasNext, Axis, ctbCount}
 use Rattle.alf_spec.specs.Isolation.{openStep}
 use Rattle.alf_spec.proofs.Tests.{both}
+use Rattle.alf_spec.proofs.Lists.{no-elem}
 use Rattle.alf_spec.proofs.Axes.{Regular, lower, following}
 
 -- ---- `hasNext` and the facts that it tests
@@ -31,11 +32,6 @@ next-below n before (suc x) h = omega arith
 next-below n after x h = h
 
 -- ---- open steps
-
-no-elem : (v : ℕ) (xs : List ℕ) → ¬ List·Memᴰ v xs → elem v xs ≡ false
-unfolding elem
-no-elem v [] out = refl
-no-elem v (x ∷ xs) out = simp (ne-eqb v x (λ q. out (List·Memᴰ·head q)), no-elem v xs (λ m. out (List·Memᴰ·tail m)))
 
 -- the CTB's side is not in the way: the step stays in the CTB, or the side is not disabled
 side-test : (m n : ℕ) (off : Bool) → (m ≢ n → off ≡ false) → (eqb m n || not off) ≡ true

@@ -6,52 +6,51 @@ use native.Mathlib.Nat.{le-antisymm}
 use native.Mathlib.Omega.{arith}
 use borrow.Author.Needs.{needs}
 use lib.ListN.{length}
-use Rattle.alf_math.proofs.Grids.{width-bounds, height-bounds}
+use Rattle.alf_math.proofs.Grids.{width-bounds, height-bounds, depth-bounds}
 use Rattle.alf_pieces.specs.Regions.{inRect}
+use Rattle.alf_pieces.specs.Copies.{area}
 use Rattle.alf_pieces.proofs.Painted.{Paint, paint-is, paint-none, paint-call}
 use Rattle.alf_pieces.proofs.Regions.{rect-none, rect-more}
-use Rattle.alf_classify.specs.Windows.{area}
 use Rattle.alf_classify.specs.Work.{copyClassAt}
-use Rattle.alf_classify.proofs.PieceRows.{Prepared, blocks, depth-bounds, copy-bounds, last-column, row-ready, row-number}
+use Rattle.alf_classify.proofs.PieceRows.{Prepared, blocks, copy-bounds, last-column, row-ready, row-number}
 use Rattle.alf_classify.proofs.WindowSums.{RowBounds, row-bounds}
 use Rattle.alf_classify.proofs.blocks.piece_classes.Statement.{statement}
 use Rattle.alf_classify.proofs.blocks.piece_classes.Tie as tie
 
 abbrev Inv-loop : tie.InvT-loop
-Inv-loop picture grid columns rows luma copy differences map₀ pitch n count depth end row₀ map row =
+Inv-loop picture grid columns rows copy differences map₀ width pitch n count depth end row₀ map row =
     (rows .start / 4 ≤ row) × (row ≤ rows .end / 4) × Prepared picture columns rows copy differences (length map₀) pitch count
     × Paint map₀ (inRect (picture .width / 4) (columns .start / 4) (columns .start / 4 + count) (rows .start / 4) row)
     (copyClassAt picture (grid .ctb) copy columns rows) map
 
 abbrev μ-loop : tie.MeasureT-loop
-μ-loop picture grid columns rows luma copy differences map₀ pitch n count depth end row₀ map row = end - row
+μ-loop picture grid columns rows copy differences map₀ width pitch n count depth end row₀ map row = end - row
 
 -- the sizes of the copy
-sizes : (c : tie.After-piece-extent2 Inv-loop μ-loop) → let m = c .before .piece-extent .result in let n = c .piece-extent2 .result in
+sizes : (c : tie.After-extent2 Inv-loop μ-loop) → let m = c .before .extent .result in let n = c .extent2 .result in
     (2 * (m + 6 + 1) ≤ (n + 6) * (m + 6)) × ((n + 6) * (m + 6) ≤ area)
 sizes c =
-    let s = c .before .before .before .before .before .before in
-    copy-bounds _ _ _ _ (c .before .piece-extent .ensures, c .piece-extent2 .ensures, blocks (s .pre .1) .few, blocks (s .pre .2) .few)
+    let s = c .before .before .before .before .before in
+    rw (c .before .extent .ensures, c .extent2 .ensures) (copy-bounds (s .pre .1) (s .pre .2))
 
 all-differences-requires : tie.Need-all-differences-requires Inv-loop μ-loop
 all-differences-requires c κs =
-    let s = c .before .before .before .before .before .before .before in
+    let s = c .before .before .before .before .before .before in
     let z = sizes (c .before) in (
       omega arith,
       z .0,
       z .1,
       s .pre .0 .copyRoom,
       s .pre .0 .differenceRoom,
-      rw (c .before .piece-extent2 .ensures, c .before .before .piece-extent .ensures) (s .pre .3),
+      rw (c .before .extent2 .ensures, c .before .before .extent .ensures) (s .pre .3),
     )
 
 loop-holds : tie.Need-loop-holds Inv-loop μ-loop
 loop-holds c =
-    let s = c .before .before .before .before .before .before .before .before .before .before .before .before .before .before in
-    let first = c .before .before .before .before .before .before .before .before .before in
-    let second = c .before .before .before .before .before .before .before .before in
-    let third = c .before .before .before in
-    let done = c .before .before .before .before .before .before .all-differences .ensures in
+    let second = c .before .before .before .before .before .before .before in
+    let first = second .before in
+    let s = first .before .before .before .before in
+    let done = c .before .before .before .before .before .all-differences .ensures in
     let filled = s .pre .2 .numbers .filled in (
       omega arith,
       omega arith,
@@ -61,18 +60,18 @@ loop-holds c =
         width = width-bounds _ (s .pre .0 .sizes) (s .pre .0 .ctbSize) .1;
         height = height-bounds _ (s .pre .0 .sizes) (s .pre .0 .ctbSize) .1;
         mapLength = s .pre .0 .mapLength;
-        pitchIs = ap (λ (n : ℕ). n + 6) (first .piece-extent .ensures);
-        countIs = ap (λ (n : ℕ). n / 4) (third .piece-extent3 .ensures);
-        samples = rw (first .piece-extent .ensures) (s .pre .3);
+        pitchIs = ap (λ (n : ℕ). n + 6) (first .extent .ensures);
+        countIs = ap (λ (n : ℕ). n / 4) (first .extent .ensures);
+        samples = rw (first .extent .ensures) (s .pre .3);
         room = omega (arith, done .0, s .pre .0 .differenceRoom);
-        differences = rw (second .piece-extent2 .ensures) at (done .1);
+        differences = rw (second .extent2 .ensures) at (done .1);
       },
       paint-none (λ k. rect-none _ _ _ _ _ k (inr (omega arith))),
     )
 
 -- where the function begins, from a turn of its loop
 abbrev begin : tie.In-loop Inv-loop μ-loop → tie.Start Inv-loop μ-loop
-begin c = c .before .before .before .before .before .before .before .before .before .before .before .before .before .before .before .before
+begin c = c .before .before .before .before .before .before .before .before .before .before .before .before .before .before
 
 -- where the row lies
 in-picture : (c : tie.In-loop Inv-loop μ-loop) → let row = c .before .loop .row in
@@ -133,13 +132,12 @@ piece-classes-spec =
     (tie.spec
     Inv-loop
     μ-loop
-    (λ c κs. let s = c .before .before .before .before in omega (arith, s .pre .1 .numbers .filled))
-    (λ c. let s = c .before .before .before .before .before in search (needs, c .piece-extent .ensures, blocks (s .pre .1) .few))
-    (λ c κs. let s = c .before .before .before .before .before in omega (arith, s .pre .2 .numbers .filled))
-    (λ c. let s = c .before .before .before .before .before .before in search (needs, c .piece-extent2 .ensures, blocks (s .pre .2) .few))
+    (λ c κs. omega (arith, c .before .before .before .pre .1 .numbers .filled))
+    (λ c. search (needs, c .extent .ensures, blocks (c .before .before .before .before .pre .1) .few))
+    (λ c κs. omega (arith, c .before .before .before .before .pre .2 .numbers .filled))
+    (λ c. search (needs, c .extent2 .ensures, blocks (c .before .before .before .before .before .pre .2) .few))
     (λ c. search (needs, sizes c))
     all-differences-requires
-    (λ c κs. let s = c .before .before .before .before .before .before .before .before .before .before in omega (arith, s .pre .1 .numbers .filled))
     (λ c. search needs)
     loop-holds
     (λ c. search (needs, in-picture c))

@@ -2,7 +2,11 @@
 use mathlib.Core.Path.{refl}
 use borrow.Author.Needs.{needs}
 use Rattle.alf_spec.specs.Input.{Layout, layoutOf}
-use Rattle.alf_classify.proofs.ClassAddresses.{in-grid, ctb-given, ctb-of, ctb-painted}
+use Rattle.alf_spec.proofs.Accepted.{Accepted}
+use Rattle.alf_boundary.proofs.CtbAddresses.{ctb-in-grid}
+use Rattle.alf_pieces.proofs.CtbPieces.{ctb-accepted}
+use Rattle.alf_pieces.proofs.CtbRegions.{ctb-painted}
+use Rattle.alf_classify.proofs.ClassWorks.{whole-blocks, accepted-classes, map-length, ctb-given}
 use Rattle.alf_classify.proofs.map.class_address.Statement.{statement}
 use Rattle.alf_classify.proofs.map.class_address.Tie as tie
 
@@ -12,10 +16,13 @@ layout s =
     layoutOf (s .args .picture) (s .args .virtual-columns .now) (s .args .virtual-rows .now) (s .args .tile-columns .now) (s .args .tile-rows .now)
     (s .args .slice-map .now) (s .args .subpic-map .now) (s .args .subpic-across .now)
 
+ok : (s : tie.Start) → Accepted (layout s)
+ok s = accepted-classes (layout s) _ _ (s .pre .4)
+
 sides-of-requires : tie.Need-sides-of-requires
 sides-of-requires c κs =
     let s = c .before .before .before .before .before .before .before .before .before .before .before .before .before in
-    in-grid (layout s) _ _ (s .pre .4) (s .pre .0) _ (s .pre .1)
+    ctb-in-grid (layout s) (ok s) (s .pre .0) _ (s .pre .1)
 
 -- what the function is given
 abbrev start : tie.After-sides-of → tie.Start
@@ -24,15 +31,15 @@ start c = c .before .before .before .before .before .before .before .before .bef
 class-ctb-requires : tie.Need-class-ctb-requires
 class-ctb-requires c κs =
     let s = start (c .before .before .before) in
-    ctb-given (layout s) _ _ (s .pre .4) (s .pre .0) _ (s .pre .1) (s .pre .2) (s .pre .3)
+    ctb-given (layout s) _ _ (s .pre .4) (s .pre .0) (s .pre .2) (s .pre .3) _ (s .pre .1)
 
 returns : tie.Need-returns
 returns c =
     let f = c .before .before .before .before .before .before .before .before .before .before in
     let s = start f in
-    let of = ctb-of (layout s) _ _ (s .pre .4) (s .pre .0) _ (s .pre .1) (f .sides-of .ensures _ _) in
-    let rectangle = c .before .before .before .before .before .before .class-ctb .ensures (layout s) of refl refl in
-    ctb-painted (layout s) _ _ (s .pre .4) (s .pre .0) _ (s .pre .1) _ refl rectangle
+    let of = ctb-accepted (ok s) (f .sides-of .ensures _ _) in
+    ctb-painted (layout s) (ok s) 4 whole-blocks _ (map-length (layout s) _ _ (s .pre .4)) (s .pre .0) _ _
+    (c .before .before .before .before .before .before .class-ctb .ensures (layout s) of refl refl)
 
 pub class-address-spec : {M : Type 1} → statement M
 class-address-spec =

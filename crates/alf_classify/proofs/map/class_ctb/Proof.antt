@@ -10,23 +10,22 @@ use lib.ListN.{length}
 use Rattle.alf_spec.specs.Input.{Layout}
 use Rattle.alf_spec.specs.Process.{classAt}
 use Rattle.alf_spec.proofs.IsolatedRegions.Ratios.{whole}
-use Rattle.alf_math.proofs.Grids.{height-bounds}
+use Rattle.alf_math.proofs.Grids.{place-bound, height-bounds}
 use Rattle.alf_boundary.specs.Clips.{axisOf}
 use Rattle.alf_pieces.specs.Regions.{inRect}
 use Rattle.alf_pieces.specs.Pieces.{either, CtbOf}
 use Rattle.alf_pieces.proofs.Painted.{Paint, paint-is, paint-none}
 use Rattle.alf_pieces.proofs.Regions.{rect-none}
-use Rattle.alf_classify.proofs.ClassWorks.{work-same, block-piece}
 use Rattle.alf_pieces.proofs.CtbPieces.{row-piece}
 use Rattle.alf_pieces.proofs.PaintedRects.{paint-stacked}
-use Rattle.alf_pieces.proofs.PieceWalk.{Walk, walk-start, walk-next, walk-done, less-by, Turn, turn, rows-regular}
+use Rattle.alf_pieces.proofs.PieceWalk.{Walk, walk-start, walk-next, walk-done, Turn, turn, turn-less, block-piece, rows-regular}
+use Rattle.alf_classify.proofs.ClassWorks.{work-same}
 use Rattle.alf_classify.proofs.map.class_ctb.Statement.{statement}
 use Rattle.alf_classify.proofs.map.class_ctb.Tie as tie
 
 abbrev Inv-loop : tie.InvT-loop
 Inv-loop picture grid virtual-columns virtual-rows ctb sides luma copy₀ differences₀ map₀ top bottom y₀ copy differences map y =
-    (bottom ≡ min (ctb .row * grid .ctb + grid .ctb) (picture .height))
-    × Walk (axisOf (picture .height) (grid .ctb) virtual-rows true 1) (ctb .row) y
+    Walk (axisOf (picture .height) (grid .ctb) virtual-rows true 1) (ctb .row) y
     × (length copy ≡ length copy₀) × (length differences ≡ length differences₀) × (length map ≡ length map₀)
     × ((l : Layout) → CtbOf l picture ctb sides → l .virtualColumns ≡ virtual-columns → l .virtualRows ≡ virtual-rows
     → Paint map₀ (inRect (picture .width / 4) (ctb .column * grid .ctb / 4) (min (ctb .column * grid .ctb + grid .ctb) (picture .width) / 4)
@@ -41,8 +40,7 @@ start c = c .before .before .before .before .before .before .before .before .bef
 
 loop-holds : tie.Need-loop-holds Inv-loop μ-loop
 loop-holds c = (
-  c .least .ensures,
-  walk-start (omega arith) (c .before .before .before .before .before .before .before .before .before .before .pre .5),
+  walk-start (omega arith) (c .before .before .before .before .before .before .before .before .before .before .pre .4),
   refl,
   refl,
   refl,
@@ -55,20 +53,20 @@ found : (c : tie.After-row-piece Inv-loop μ-loop) → let a = start (c .before)
     (c .before .before .loop .y) (c .row-piece .result)
 found c =
     let s = start (c .before) in
-    let work = s .pre .0 in
-    turn (rows-regular (work .grid) (work .sizes) (work .ctbSize) (s .pre .2) 1) whole (work .grid .ctbHigh) (c .before .before .loop .inv .1)
-    (omega (arith, c .before .before .loop .inv .0, c .before .loop-test .taken)) (c .row-piece .ensures)
+    let work = s .pre .0 .rooms in
+    turn (rows-regular (work .grid) (work .sizes) (work .ctbSize) (s .pre .2) 1) whole (work .grid .ctbHigh) (c .before .before .loop .inv .0)
+    (omega (arith, c .before .before .before .least .ensures, c .before .loop-test .taken)) (c .row-piece .ensures)
 
 class-strip-requires : tie.Need-class-strip-requires Inv-loop μ-loop
 class-strip-requires c κs =
     let s = start (c .before .before .before .before) in
     let inv = c .before .before .before .before .before .loop .inv in
-    (work-same (s .pre .0) (inv .2) (inv .3) (inv .4), s .pre .1, block-piece (found (c .before .before .before) .facts), s .pre .3, s .pre .4)
+    (work-same (s .pre .0) (inv .1) (inv .2) (inv .3), s .pre .1, block-piece (found (c .before .before .before) .facts), s .pre .3)
 
 loop-less : tie.Need-loop-less Inv-loop μ-loop
 loop-less c =
     let f = c .before .before .before .before .before .before .before .before .before .before in
-    less-by (f .before .loop-test .taken) (found f .start) (found f .facts .numbers .filled)
+    turn-less (found f) (f .before .loop-test .taken)
 
 loop-again : tie.Need-loop-again Inv-loop μ-loop
 loop-again c =
@@ -76,22 +74,21 @@ loop-again c =
     let s = start (f .before) in
     let t = found f in
     let inv = f .before .before .loop .inv in (
-      inv .0,
       walk-next (t .facts),
       omega arith,
       omega arith,
       omega arith,
       λ l of e r.
-          paint-stacked _ _ _ _ _ _ (inv .5 l of e r)
-          (c .before .before .before .before .before .before .class-strip .ensures l of e (row-piece of 1 1 (s .pre .0 .grid) r (t .piece)))
-          (ap (λ (n : ℕ). n / 4) (t .start)) (omega (arith, inv .1 .from)) (omega (arith, t .start, t .facts .numbers .filled)),
+          paint-stacked _ _ _ _ _ _ (inv .4 l of e r)
+          (c .before .before .before .before .before .before .class-strip .ensures l of e (row-piece of 1 1 (s .pre .0 .rooms .grid) r (t .piece)))
+          (ap (λ (n : ℕ). n / 4) (t .start)) (omega (arith, inv .0 .from)) (omega (arith, t .start, t .facts .numbers .filled)),
     )
 
 returns : tie.Need-returns Inv-loop μ-loop
 returns c =
     let inv = c .before .loop .inv in
-    let done = walk-done whole (inv .1) (omega (arith, inv .0, c .loop-test .left)) ∙ div-one _ in
-    λ l of e r. rw done at (paint-is (inv .5 l of e r))
+    let done = walk-done whole (inv .0) (omega (arith, c .before .before .least .ensures, c .loop-test .left)) ∙ div-one _ in
+    λ l of e r. rw done at (paint-is (inv .4 l of e r))
 
 pub class-ctb-spec : {M : Type 1} → statement M
 class-ctb-spec =
@@ -102,13 +99,14 @@ class-ctb-spec =
     (λ c. omega arith)
     (λ c.
     let s = c .before .before .before .before .before .before .before .before .before in
-    omega (arith, height-bounds (s .args .picture) (s .pre .0 .sizes) (s .pre .0 .ctbSize), s .pre .0 .grid .ctbHigh))
+    omega (arith, height-bounds (s .args .picture) (s .pre .0 .rooms .sizes) (s .pre .0 .rooms .ctbSize), s .pre .0 .rooms .grid .ctbHigh))
     (λ c κs. search needs)
     loop-holds
     (λ c κs.
     let s = start c in
-    let high = height-bounds (s .args .picture) (s .pre .0 .sizes) (s .pre .0 .ctbSize) in
-    (s .pre .0 .grid, omega arith, omega arith, s .pre .6, omega (arith, c .loop-test .taken, c .before .loop .inv .0)))
+    let high = height-bounds (s .args .picture) (s .pre .0 .rooms .sizes) (s .pre .0 .rooms .ctbSize) in
+    let few = place-bound (s .pre .0 .rooms .grid .ctbLow) (high .1) (s .pre .4) in
+    (s .pre .0 .rooms .grid, omega arith, omega arith, few, omega (arith, c .loop-test .taken, c .before .before .least .ensures)))
     class-strip-requires
     loop-less
     loop-again

@@ -7,14 +7,14 @@ use borrow.Author.Needs.{needs}
 use lib.ListN.{length, length-replicate}
 use Rattle.alf_spec.specs.Input.{Layout, layoutOf}
 use Rattle.alf_spec.specs.Geometry.{classPlane}
-use Rattle.alf_spec.specs.Process.{classAt}
+use Rattle.alf_spec.specs.Process.{classAt, classMap}
+use Rattle.alf_spec.proofs.Accepted.{Accepted}
 use Rattle.alf_math.proofs.Grids.{few-ctbs}
-use Rattle.alf_pieces.proofs.Painted.{Paint, paint-none, paint-call}
-use Rattle.alf_classify.specs.Windows.{area}
+use Rattle.alf_pieces.specs.Copies.{area}
 use Rattle.alf_pieces.specs.CtbRegions.{ofCtb, beforeCtb}
-use Rattle.alf_pieces.proofs.CtbRegions.{no-ctb, next-ctb}
-use Rattle.alf_classify.proofs.ClassAddresses.{map-done}
-use Rattle.alf_classify.proofs.ClassWorks.{accepted-classes}
+use Rattle.alf_pieces.proofs.Painted.{Paint, paint-none, paint-call}
+use Rattle.alf_pieces.proofs.CtbRegions.{no-ctb, next-ctb, all-painted}
+use Rattle.alf_classify.proofs.ClassWorks.{whole-blocks, accepted-classes, map-length}
 use Rattle.alf_classify.proofs.map.class_map.Statement.{statement}
 use Rattle.alf_classify.proofs.map.class_map.Tie as tie
 
@@ -36,14 +36,16 @@ layout s =
     layoutOf (s .args .picture) (s .args .virtual-columns .now) (s .args .virtual-rows .now) (s .args .tile-columns .now) (s .args .tile-rows .now)
     (s .args .slice-map .now) (s .args .subpic-map .now) (s .args .subpic-across .now)
 
+ok : (s : tie.Start Inv-loop μ-loop) → Accepted (layout s)
+ok s = accepted-classes (layout s) _ _ (s .pre)
+
 grid-requires : tie.Need-grid-requires Inv-loop μ-loop
 grid-requires c κs =
     let s = c .before .before .before .before .before .before .before .before .before in
-    let ok = accepted-classes (layout s) _ _ (s .pre) in
-    (ok .sizes, ok .ctbSize)
+    (ok s .sizes, ok s .ctbSize)
 
 loop-holds : tie.Need-loop-holds Inv-loop μ-loop
-loop-holds c = (omega arith, few-ctbs (c .before .grid .ensures), length-replicate 17956 zero, length-replicate 71824 zero, paint-none (no-ctb _ _))
+loop-holds c = (omega arith, few-ctbs (c .before .grid .ensures), length-replicate area zero, length-replicate (4 * area) zero, paint-none (no-ctb _ _))
 
 class-address-requires : tie.Need-class-address-requires Inv-loop μ-loop
 class-address-requires c κs =
@@ -62,10 +64,12 @@ loop-again c =
     )
 
 returns : tie.Need-returns Inv-loop μ-loop
+unfolding classMap
 returns c =
     let s = c .before .before .before .before .before .before .before .before .before .before .before .before .before in
     let inv = c .before .loop .inv in
-    map-done (layout s) _ _ (s .pre) (c .before .before .before .grid .ensures) (inv .4) (le-antisymm (inv .0) (c .loop-test .left))
+    all-painted (layout s) (ok s) 4 whole-blocks _ (map-length (layout s) _ _ (s .pre)) (c .before .before .before .grid .ensures) _ (inv .4)
+    (le-antisymm (inv .0) (c .loop-test .left))
 
 pub class-map-spec : {M : Type 1} → statement M
 class-map-spec =

@@ -1,12 +1,10 @@
 -- `alf_classify::map::class_piece` meets its contract: the copy holds the windows of the piece's blocks. Assumes nothing.
 use mathlib.Core.Path.{refl}
 use Prim.Native.Nat.{_≤_}
-use native.Mathlib.Omega.{arith}
 use borrow.Author.Needs.{needs}
 use lib.ListN.{length}
 use Rattle.alf_pieces.specs.Copies.{copyLength}
 use Rattle.alf_pieces.proofs.Painted.{paint-is, paint-of, paint-same}
-use Rattle.alf_classify.proofs.ClassWorks.{work-same}
 use Rattle.alf_pieces.proofs.CopySamples.{copy-small}
 use Rattle.alf_pieces.proofs.CopyRooms.{copy-fits, rows-fit}
 use Rattle.alf_classify.proofs.PieceClasses.{class-same}
@@ -18,7 +16,7 @@ copy-piece-requires c κs =
     let s = c .before .before .before .before .before .before in
     let across = s .pre .1 .numbers in
     let down = s .pre .2 .numbers in
-    (across, down .low, down .filled, down .high, rw (s .pre .0 .lumaLength) (rows-fit _ down), copy-fits across down (s .pre .0 .copyRoom))
+    (across, down .low, down .filled, down .high, rw (s .pre .0 .lumaLength) (rows-fit _ down), copy-fits across down (s .pre .0 .rooms .copyRoom))
 
 -- what the function is given
 abbrev start : tie.After-copy-piece → tie.Start
@@ -26,17 +24,17 @@ start c = c .before .before .before .before .before .before .before
 
 -- the copy has room
 room : (c : tie.After-copy-piece) → let a = start c .args in copyLength (a .columns) (a .rows) ≤ length (a .copy .now)
-room c = copy-fits (start c .pre .1 .numbers) (start c .pre .2 .numbers) (start c .pre .0 .copyRoom)
+room c = copy-fits (start c .pre .1 .numbers) (start c .pre .2 .numbers) (start c .pre .0 .rooms .copyRoom)
 
 piece-classes-requires : tie.Need-piece-classes-requires
 piece-classes-requires c κs =
     let f = c .before .before .before .before .before in
     let copies = f .copy-piece .ensures in
     let pre = start f .pre in (
-      work-same (pre .0) (paint-of copies .len) refl refl,
+      rw (paint-of copies .len) (pre .0 .rooms),
       pre .1,
       pre .2,
-      copy-small _ _ _ _ _ _ _ copies (room f) 4096 (omega arith) (pre .0 .samples),
+      copy-small _ _ _ _ _ _ _ copies (room f) 4096 (pre .0 .samples),
     )
 
 returns : tie.Need-returns
@@ -44,7 +42,7 @@ returns c =
     let f = c .before .before .before .before .before .before .before .before .before .before in
     λ l ctb of across down.
     paint-is (paint-same (paint-of (c .before .before .before .before .piece-classes .ensures)) (λ k h. refl)
-    (λ k h. class-same of (start f .pre .0 .grid) across down _ _ _ (f .copy-piece .ensures) (room f) k))
+    (λ k h. class-same of (start f .pre .0 .rooms .grid) across down _ _ _ (f .copy-piece .ensures) (room f) k))
 
 pub class-piece-spec : {M : Type 1} → statement M
 class-piece-spec =

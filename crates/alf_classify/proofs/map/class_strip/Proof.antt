@@ -2,7 +2,7 @@
 use mathlib.Core.Path.{_≡_, refl, ap, _∙_}
 use mathlib.Core.Bool.{false}
 use mathlib.Core.Logic.{inl}
-use Prim.Native.Nat.{ℕ, _+_, _-_, _*_, _/_, min}
+use Prim.Native.Nat.{ℕ, _-_, _*_, _/_}
 use native.Mathlib.Nat.{div-one}
 use native.Mathlib.Omega.{arith}
 use borrow.Author.Needs.{needs}
@@ -12,23 +12,22 @@ use Rattle.alf_spec.specs.Geometry.{lumaPlane}
 use Rattle.alf_spec.specs.Boundary.{rowDisabled}
 use Rattle.alf_spec.specs.Process.{classAt}
 use Rattle.alf_spec.proofs.IsolatedRegions.Ratios.{whole}
-use Rattle.alf_math.proofs.Grids.{width-bounds}
+use Rattle.alf_math.proofs.Grids.{place-bound, width-bounds}
 use Rattle.alf_boundary.specs.Clips.{axisOf}
 use Rattle.alf_pieces.specs.Regions.{inRect}
 use Rattle.alf_pieces.specs.Pieces.{either, PieceOf, CtbOf}
 use Rattle.alf_pieces.proofs.Painted.{Paint, paint-is, paint-none}
 use Rattle.alf_pieces.proofs.Regions.{rect-none}
-use Rattle.alf_classify.proofs.ClassWorks.{work-same, block-piece}
 use Rattle.alf_pieces.proofs.CtbPieces.{column-piece}
 use Rattle.alf_pieces.proofs.PaintedRects.{paint-beside}
-use Rattle.alf_pieces.proofs.PieceWalk.{Walk, walk-start, walk-next, walk-done, less-by, Turn, turn, columns-regular}
+use Rattle.alf_pieces.proofs.PieceWalk.{Walk, walk-start, walk-next, walk-done, Turn, turn, turn-less, block-piece, columns-regular}
+use Rattle.alf_classify.proofs.ClassWorks.{work-same}
 use Rattle.alf_classify.proofs.map.class_strip.Statement.{statement}
 use Rattle.alf_classify.proofs.map.class_strip.Tie as tie
 
 abbrev Inv-loop : tie.InvT-loop
 Inv-loop picture grid virtual-columns ctb sides rows luma copy₀ differences₀ map₀ left right x₀ copy differences map x =
-    (right ≡ min (ctb .column * grid .ctb + grid .ctb) (picture .width))
-    × Walk (axisOf (picture .width) (grid .ctb) virtual-columns false 1) (ctb .column) x
+    Walk (axisOf (picture .width) (grid .ctb) virtual-columns false 1) (ctb .column) x
     × (length copy ≡ length copy₀) × (length differences ≡ length differences₀) × (length map ≡ length map₀)
     × ((l : Layout) → CtbOf l picture ctb sides → l .virtualColumns ≡ virtual-columns → PieceOf (lumaPlane l .rows) (rowDisabled l ctb) (ctb .row) rows
     → Paint map₀ (inRect (picture .width / 4) (ctb .column * grid .ctb / 4) (x / 4) (rows .start / 4) (rows .end / 4)) (classAt l luma) map)
@@ -42,7 +41,6 @@ start c = c .before .before .before .before .before .before .before .before .bef
 
 loop-holds : tie.Need-loop-holds Inv-loop μ-loop
 loop-holds c = (
-  c .least .ensures,
   walk-start (omega arith) (c .before .before .before .before .before .before .before .before .before .pre .3),
   refl,
   refl,
@@ -56,20 +54,20 @@ found : (c : tie.After-column-piece Inv-loop μ-loop) → let a = start (c .befo
     (c .before .before .loop .x) (c .column-piece .result)
 found c =
     let s = start (c .before) in
-    let work = s .pre .0 in
-    turn (columns-regular (work .grid) (work .sizes) (work .ctbSize) (s .pre .1) 1) whole (work .grid .ctbHigh) (c .before .before .loop .inv .1)
-    (omega (arith, c .before .before .loop .inv .0, c .before .loop-test .taken)) (c .column-piece .ensures)
+    let work = s .pre .0 .rooms in
+    turn (columns-regular (work .grid) (work .sizes) (work .ctbSize) (s .pre .1) 1) whole (work .grid .ctbHigh) (c .before .before .loop .inv .0)
+    (omega (arith, c .before .before .before .least .ensures, c .before .loop-test .taken)) (c .column-piece .ensures)
 
 class-piece-requires : tie.Need-class-piece-requires Inv-loop μ-loop
 class-piece-requires c κs =
     let s = start (c .before .before .before .before) in
     let inv = c .before .before .before .before .before .loop .inv in
-    (work-same (s .pre .0) (inv .2) (inv .3) (inv .4), block-piece (found (c .before .before .before) .facts), s .pre .2)
+    (work-same (s .pre .0) (inv .1) (inv .2) (inv .3), block-piece (found (c .before .before .before) .facts), s .pre .2)
 
 loop-less : tie.Need-loop-less Inv-loop μ-loop
 loop-less c =
     let f = c .before .before .before .before .before .before .before .before .before .before in
-    less-by (f .before .loop-test .taken) (found f .start) (found f .facts .numbers .filled)
+    turn-less (found f) (f .before .loop-test .taken)
 
 loop-again : tie.Need-loop-again Inv-loop μ-loop
 loop-again c =
@@ -77,22 +75,21 @@ loop-again c =
     let s = start (f .before) in
     let t = found f in
     let inv = f .before .before .loop .inv in (
-      inv .0,
       walk-next (t .facts),
       omega arith,
       omega arith,
       omega arith,
       λ l of e down.
-          paint-beside _ _ _ _ _ _ (inv .5 l of e down)
-          (c .before .before .before .before .before .before .class-piece .ensures l _ of (column-piece of 1 1 (s .pre .0 .grid) e (t .piece)) down)
-          (ap (λ (n : ℕ). n / 4) (t .start)) (omega (arith, inv .1 .from)) (omega (arith, t .start, t .facts .numbers .filled)),
+          paint-beside _ _ _ _ _ _ (inv .4 l of e down)
+          (c .before .before .before .before .before .before .class-piece .ensures l _ of (column-piece of 1 1 (s .pre .0 .rooms .grid) e (t .piece)) down)
+          (ap (λ (n : ℕ). n / 4) (t .start)) (omega (arith, inv .0 .from)) (omega (arith, t .start, t .facts .numbers .filled)),
     )
 
 returns : tie.Need-returns Inv-loop μ-loop
 returns c =
     let inv = c .before .loop .inv in
-    let done = walk-done whole (inv .1) (omega (arith, inv .0, c .loop-test .left)) ∙ div-one _ in
-    λ l of e down. rw done at (paint-is (inv .5 l of e down))
+    let done = walk-done whole (inv .0) (omega (arith, c .before .before .least .ensures, c .loop-test .left)) ∙ div-one _ in
+    λ l of e down. rw done at (paint-is (inv .4 l of e down))
 
 pub class-strip-spec : {M : Type 1} → statement M
 class-strip-spec =
@@ -103,13 +100,14 @@ class-strip-spec =
     (λ c. omega arith)
     (λ c.
     let s = c .before .before .before .before .before .before .before .before in
-    omega (arith, width-bounds (s .args .picture) (s .pre .0 .sizes) (s .pre .0 .ctbSize), s .pre .0 .grid .ctbHigh))
+    omega (arith, width-bounds (s .args .picture) (s .pre .0 .rooms .sizes) (s .pre .0 .rooms .ctbSize), s .pre .0 .rooms .grid .ctbHigh))
     (λ c κs. search needs)
     loop-holds
     (λ c κs.
     let s = start c in
-    let wide = width-bounds (s .args .picture) (s .pre .0 .sizes) (s .pre .0 .ctbSize) in
-    (s .pre .0 .grid, omega arith, omega arith, s .pre .4, omega (arith, c .loop-test .taken, c .before .loop .inv .0)))
+    let wide = width-bounds (s .args .picture) (s .pre .0 .rooms .sizes) (s .pre .0 .rooms .ctbSize) in
+    let few = place-bound (s .pre .0 .rooms .grid .ctbLow) (wide .1) (s .pre .3) in
+    (s .pre .0 .rooms .grid, omega arith, omega arith, few, omega (arith, c .loop-test .taken, c .before .before .least .ensures)))
     class-piece-requires
     loop-less
     loop-again

@@ -1,7 +1,7 @@
 -- `alf_validate::filters::filters_valid` meets its contract: a call for each of the two tests. Assumes nothing.
 use borrow.Author.Needs.{needs}
 use Rattle.alf_spec.specs.Faults.{bankValid, fixedValid}
-use Rattle.alf_validate.proofs.BitDepth.{depth-high}
+use Rattle.alf_math.proofs.Grids.{depth-bounds}
 use Rattle.alf_validate.proofs.filters.filters_valid.Statement.{statement}
 use Rattle.alf_validate.proofs.filters.filters_valid.Tie as tie
 
@@ -10,6 +10,6 @@ unfolding bankValid fixedValid
 filters-valid-spec =
     tie.close
     (tie.spec
-    (λ c κs. depth-high _ (c .before .pre))
+    (λ c κs. depth-bounds _ (c .before .pre) .1)
     (λ c κs. search needs)
     (λ c. rw (c .before .bank-valid .ensures, c .fixed-valid .ensures)))

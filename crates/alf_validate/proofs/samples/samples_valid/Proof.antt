@@ -3,7 +3,8 @@ use mathlib.Core.Path.{_∙_}
 use native.Mathlib.Omega.{arith}
 use borrow.Author.Needs.{needs}
 use Rattle.alf_spec.specs.Faults.{samplesValid}
-use Rattle.alf_validate.proofs.BitDepth.{depth-high, one-shifted}
+use Rattle.alf_math.proofs.Grids.{depth-bounds}
+use Rattle.alf_validate.proofs.BitDepth.{one-shifted}
 use Rattle.alf_validate.proofs.samples.samples_valid.Statement.{statement}
 use Rattle.alf_validate.proofs.samples.samples_valid.Tie as tie
 
@@ -13,6 +14,6 @@ samples-valid-spec =
     tie.close
     (tie.spec
     (λ c. search needs)
-    (λ c. omega (arith, depth-high _ (c .before .before .pre)))
+    (λ c. omega (arith, depth-bounds _ (c .before .before .pre)))
     (λ c κs. search needs)
-    (λ c. c .samples-below .ensures ∙ rw (one-shifted _ (depth-high _ (c .before .before .before .pre)))))
+    (λ c. c .samples-below .ensures ∙ rw (one-shifted _ (depth-bounds _ (c .before .before .before .pre) .1))))
