@@ -4,7 +4,6 @@ use mathlib.Core.Bool.{true}
 use mathlib.Core.List.{List}
 use Prim.Native.Nat.{ℕ, _+_, _-_, _*_, _/_, _%_, _≤_, _<_}
 use native.Mathlib.Omega.{arith}
-use lib.Dec.{leb}
 use lib.ListN.{length, getD}
 use Rattle.alf_spec.specs.declared.Ctb.{Ctb}
 use Rattle.alf_spec.specs.declared.Grid.{Grid}
@@ -15,7 +14,7 @@ use Rattle.alf_spec.specs.Input.{Layout}
 use Rattle.alf_spec.specs.Geometry.{ctbSize, planeOf, lumaPlane, lineRule}
 use Rattle.alf_spec.specs.Boundary.{columnDisabled, rowDisabled}
 use Rattle.alf_spec.specs.Padding.{read}
-use Rattle.alf_spec.specs.Classes.{windowRows, classWindow, classOf, blockClass}
+use Rattle.alf_spec.specs.Classes.{classWindow, classOf, blockClass}
 use Rattle.alf_spec.specs.Process.{classNumber, classAt}
 use Rattle.alf_spec.proofs.Lists.{tabulate-same}
 use Rattle.alf_spec.proofs.IsolatedRegions.Ratios.{whole}
@@ -29,7 +28,7 @@ use Rattle.alf_pieces.proofs.CtbPieces.{column-facts, row-facts}
 use Rattle.alf_pieces.proofs.CopyReads.{copy-reads}
 use Rattle.alf_pieces.proofs.CopySamples.{copy-at, window-in}
 use Rattle.alf_classify.specs.Windows.{copyWindow}
-use Rattle.alf_classify.specs.Work.{copyClassAt}
+use Rattle.alf_classify.specs.Work.{rowWindow, copyClassAt}
 
 module _ {l : Layout} {p : Picture} {c : Ctb} {s : Sides} (ctb : CtbOf l p c s) {g : Grid} (grid : GridOf p g) {columns rows : Piece}
     (across : PieceOf (lumaPlane l .columns) (columnDisabled l c) (c .column) columns) (down : PieceOf (lumaPlane l .rows) (rowDisabled l c) (c .row) rows)
@@ -75,5 +74,4 @@ module _ {l : Layout} {p : Picture} {c : Ctb} {s : Sides} (ctb : CtbOf l p c s) 
       let window = window-same x y (omega arith) (omega arith)
       (omega (arith, inColumns .start4)) (omega (arith, inColumns .end4)) (omega (arith, inRows .start4)) (omega (arith, inRows .end4)) in
       rw (grid .ctb, ← (ctb .picture)) (ap (λ (w : List ℕ). classNumber (classOf (l .picture .«bit_depth»)
-      (windowRows (leb (y / ctbSize (l .picture) * ctbSize (l .picture) + ctbSize (l .picture)) (l .picture .height)) (ctbSize (l .picture))
-      (y % ctbSize (l .picture))) w)) (sym window))
+      (rowWindow (l .picture .height) (ctbSize (l .picture)) y) w)) (sym window))

@@ -18,7 +18,7 @@ use Rattle.alf_pieces.specs.Regions.{between}
 use Rattle.alf_pieces.proofs.Regions.{run-facts, row-of}
 use Rattle.alf_pieces.proofs.CopyRooms.{copy-fits}
 use Rattle.alf_classify.specs.Windows.{copyWindow, Differences, blockSums, SmallRuns, rowClass}
-use Rattle.alf_classify.specs.Work.{copyClassAt}
+use Rattle.alf_classify.specs.Work.{rowWindow, copyClassAt}
 use Rattle.alf_classify.proofs.DifferenceLists.{small-runs}
 use Rattle.alf_classify.proofs.WindowSums.{RowBounds, row-bounds, window-sums}
 
@@ -79,7 +79,7 @@ last-column P = omega (arith, P .countIs, blocks (P .across) .last)
 module _ (p : Picture) (ctb : ℕ) (columns rows : Piece) (copy d : List ℕ) {map pitch count : ℕ} (P : Prepared p columns rows copy d map pitch count)
     (row : ℕ) (low : rows .start / 4 ≤ row) (high : row < rows .end / 4) where
   abbrev Window : WindowRows → Type 0
-  Window w = w ≡ windowRows (leb (4 * row / ctb * ctb + ctb) (p .height)) ctb (4 * row % ctb)
+  Window w = w ≡ rowWindow (p .height) ctb (4 * row)
 
   -- the row's first sample, in the piece
   abbrev top : ℕ
@@ -95,7 +95,7 @@ module _ (p : Picture) (ctb : ℕ) (columns rows : Piece) (copy d : List ℕ) {m
   module _ (window : WindowRows) (w : Window window) (from at : ℕ) (f : from ≡ (top + window .first) * pitch + 1)
       (a : at ≡ row * (p .width / 4) + columns .start / 4) where
     bounds : RowBounds window
-    bounds = rw w (row-bounds (leb (4 * row / ctb * ctb + ctb) (p .height)) ctb (4 * row % ctb))
+    bounds = rw w (row-bounds _ ctb (4 * row % ctb))
 
     wide : pitch ≡ 4 * count + 6
     wide = let b = blocks (P .across) in omega (arith, P .pitchIs, P .countIs, b .whole)

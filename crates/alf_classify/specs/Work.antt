@@ -1,16 +1,18 @@
 -- What the functions from a piece to the whole map are given, and what a piece's copy says of its blocks. Assumes nothing.
 use mathlib.Core.Path.{_≡_}
 use mathlib.Core.Bool.{true}
-use mathlib.Core.List.{List}
+use mathlib.Core.List.{List, []}
 use Prim.Native.Nat.{ℕ, _+_, _-_, _*_, _/_, _%_, _≤_, _<_}
-use lib.Dec.{leb}
 use lib.ListN.{length, getD}
 use Rattle.alf_spec.specs.declared.Picture.{Picture}
 use Rattle.alf_spec.specs.declared.Grid.{Grid}
+use Rattle.alf_spec.specs.declared.WindowRows.{WindowRows}
+use Rattle.alf_spec.specs.Geometry.{lineRule}
 use Rattle.alf_spec.specs.Classes.{windowRows, classOf}
 use Rattle.alf_spec.specs.Process.{classNumber}
 use Rattle.alf_spec.specs.Faults.{pictureSizeValid, ctbSizeValid, bitDepthValid}
 use Rattle.alf_math.specs.Grids.{GridOf}
+use Rattle.alf_boundary.specs.Clips.{axisOf}
 use Rattle.alf_pieces.specs.declared.pieces.Piece.{Piece}
 use Rattle.alf_pieces.specs.Copies.{pitch, area}
 use Rattle.alf_classify.specs.Windows.{copyWindow}
@@ -31,11 +33,15 @@ pub record ClassWork (p : Picture) (g : Grid) (luma : List ℕ) (copy difference
   pub lumaLength : length luma ≡ p .width * p .height
   pub samples : (k : ℕ) → getD luma k 0 < 4096
 
+-- the rows that count in the window of a block whose first row is y
+abbrev pub rowWindow : ℕ → ℕ → ℕ → WindowRows
+rowWindow height ctb y = windowRows (lineRule (axisOf height ctb [] true 1) y) ctb (y % ctb)
+
 -- the class and the transpose of the block of entry k of the map, from the copy of the piece in which it lies
 unfoldable pub copyClassAt : Picture → ℕ → List ℕ → Piece → Piece → ℕ → ℕ
 copyClassAt p ctb copy columns rows k =
     let x = k % (p .width / 4) * 4 in
     let y = k / (p .width / 4) * 4 in
     classNumber
-    (classOf (p .«bit_depth») (windowRows (leb (y / ctb * ctb + ctb) (p .height)) ctb (y % ctb))
+    (classOf (p .«bit_depth») (rowWindow (p .height) ctb y)
     (copyWindow copy (pitch columns) (x - columns .start) (y - rows .start)))

@@ -1,16 +1,15 @@
 // The classes of the blocks of a piece.
 ghost use mathlib.Core.Path.{_≡_};
-ghost use Prim.Native.Nat.{ℕ, _+_, _-_, _*_, _/_, _%_, _≤_, _<_};
-ghost use lib.Dec.{leb};
+ghost use Prim.Native.Nat.{ℕ, _+_, _-_, _*_, _/_, _≤_, _<_};
 ghost use lib.ListN.{length, getD};
 ghost use Rattle.alf_spec.specs.Lists.{painted};
-ghost use Rattle.alf_spec.specs.Classes.{windowRows, classOfSums};
+ghost use Rattle.alf_spec.specs.Classes.{classOfSums};
 ghost use Rattle.alf_spec.specs.Process.{classNumber};
 ghost use Rattle.alf_pieces.specs.Regions.{between, inRect};
 ghost use Rattle.alf_pieces.specs.Pieces.{BlockPiece};
 ghost use Rattle.alf_pieces.specs.Copies.{area, copyLength};
 ghost use Rattle.alf_classify.specs.Windows.{SmallRuns, columnSums, columnClass, rowClass};
-ghost use Rattle.alf_classify.specs.Work.{Rooms, copyClassAt};
+ghost use Rattle.alf_classify.specs.Work.{Rooms, rowWindow, copyClassAt};
 use crate::differences::AREA;
 use crate::differences::all_differences;
 use crate::sums::block_sum;
@@ -110,7 +109,7 @@ fn class_row(
 // The rows that count in the windows of the blocks whose first row is y.
 fn row_window(height: u32, ctb: u32, y: u32) -> WindowRows
     requires { ⌜ (8 ≤ ctb) × (ctb ≤ 128) × (y ≤ 4096) ⌝ }
-    ensures { λ r. ⌜ r ≡ windowRows (leb (y / ctb * ctb + ctb) height) ctb (y % ctb) ⌝ }
+    ensures { λ r. ⌜ r ≡ rowWindow height ctb y ⌝ }
 {
     window_rows(line_rule(height, ctb, y), ctb, y % ctb)
 }

@@ -3,13 +3,11 @@ use mathlib.Core.Path.{refl, _∙_}
 use mathlib.Core.Bool.{true}
 use mathlib.Core.List.{[]}
 use borrow.Author.Needs.{needs}
-use Rattle.alf_spec.specs.Geometry.{lineRule}
 use Rattle.alf_boundary.specs.Clips.{axisOf}
 use Rattle.alf_classify.proofs.blocks.row_window.Statement.{statement}
 use Rattle.alf_classify.proofs.blocks.row_window.Tie as tie
 
 returns : tie.Need-returns
-unfolding lineRule
 returns c =
     let a = c .before .before .args in
     let line = c .before .line-rule .ensures (axisOf (a .height) (a .ctb) [] true 1) refl refl in
