@@ -1,12 +1,12 @@
 -- How large integers can be, so that code can be shown not to overflow: bounds of sums, products, clips and shifts by magnitude, and the
 -- reading of a signed value from its bits. Assumes nothing.
-use mathlib.Core.Path.{_≡_, refl, _∙_}
+use mathlib.Core.Path.{_≡_, refl, ap, _∙_}
 use mathlib.Core.Bool.{Bool, true, false, cond, true≢false}
 use mathlib.Core.List.{List}
 use Prim.Native.Nat.{ℕ, zero, suc, _+_, _-_, _*_, _^_, _≤_, _<_}
 use native.Mathlib.Nat.{le-refl, lt-of-le-of-lt, mul-le-mul, div-le-self}
 use native.Mathlib.Omega.{arith}
-use borrow.Author.Tests.{ltb-true, ltb-false}
+use borrow.Author.Tests.{ltb-true, ltb-false, le-ltb}
 use lib.Dec.{T, ltb}
 use lib.ListN.{getD}
 use lib.IntN.{ℤ, pos, negsuc, negℤ, natAbs, _+ℤ_, _-ℤ_, _*ℤ_}
@@ -17,6 +17,7 @@ use mir.Facts.{toZ-ofZ, sfits-widen}
 use mir.ValLaws.{sfits-le}
 use Rattle.alf_spec.specs.Lists.{sumBelowℤ}
 use Rattle.alf_spec.specs.Arithmetic.{clip3, clippedChange, tap, tapSum}
+use Rattle.alf_math.specs.Integers.{minℤ, maxℤ, ClipRange}
 
 -- ---- magnitudes
 
@@ -115,6 +116,29 @@ abs-clip c v = clip-cases (λ z. natAbs z ≤ natAbs c) (negℤ c) c v (omega (a
 between-levels : (m : ℕ) (v : ℤ) → ltZ v (pos 0) ≡ false → ltZ (pos m) v ≡ false → T (nonNeg v) × (natAbs v ≤ m)
 between-levels m (pos n) p q = (tt, ltb-false m n q)
 between-levels m (negsuc n) p q = absurd (true≢false p)
+
+-- a clip is the smaller of v and the upper end, then the larger of that and the lower end, where the lower end is above no number that is not negative
+module _ (low : ℤ) (n : ℕ) (below : (k : ℕ) → ltZ (pos k) low ≡ false) where
+  by-levels : (m : ℕ) (t : Bool) → ltb m n ≡ t → cond (ltZ (cond t (pos m) (pos n)) low) low (cond t (pos m) (pos n)) ≡ cond (ltb n m) (pos n) (pos m)
+  by-levels m true p = rw (below m, le-ltb n m (omega (arith, ltb-true m n p)))
+  by-levels m false p = rw (below n) (equal (ltb n m) refl)
+    where
+      equal : (u : Bool) → ltb n m ≡ u → pos n ≡ cond u (pos n) (pos m)
+      equal true q = refl
+      equal false q = ap pos (omega (arith, ltb-false m n p, ltb-false n m q))
+
+  min-max : (v : ℤ) → maxℤ (minℤ v (pos n)) low ≡ clip3 low (pos n) v
+  unfolding minℤ maxℤ clip3
+  min-max (pos m) = by-levels m (ltb m n) refl ∙ rw (below m)
+  min-max (negsuc m) = refl
+
+above-opposite : (n k : ℕ) → ltZ (pos k) (negℤ (pos n)) ≡ false
+above-opposite zero k = le-ltb k 0 (omega arith)
+above-opposite (suc n) k = refl
+
+-- to −c .. c
+pub clip-between : {c : ℤ} → ClipRange c → (v : ℤ) → maxℤ (minℤ v c) (negℤ c) ≡ clip3 (negℤ c) c v
+clip-between {c} h v = rw (h .level) (min-max (negℤ (pos (natAbs c))) (natAbs c) (above-opposite (natAbs c)) v)
 
 -- a sample is not negative, and at most the largest level
 pub clip-level : (m : ℕ) (v : ℤ) → T (nonNeg (clip3 (pos 0) (pos m) v)) × (natAbs (clip3 (pos 0) (pos m) v) ≤ m)

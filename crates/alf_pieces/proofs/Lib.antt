@@ -14,4 +14,6 @@ pub mod CopyRooms
 pub mod PaintedRects
 pub mod PieceWalk
 pub mod CtbPieces
+pub mod CopyHolds
+pub mod ScaledPieces
 pub mod CtbRegions

@@ -63,6 +63,10 @@ pieceAt a disabled q x = record {
   limit = cond (cutAt a disabled q after (pieceEnd a q (lumaPosition a x))) (pieceEnd a q (lumaPosition a x) / a .ratio) (samples a);
 }
 
+-- a piece of the luma plane in the samples of a plane with this ratio to luma
+unfoldable pub scaled : ℕ → Piece → Piece
+scaled ratio p = record { start = p .start / ratio; end = p .end / ratio; lowest = p .lowest / ratio; limit = p .limit / ratio }
+
 -- ---- a piece that is given
 
 -- a piece of the CTB at place q may begin at the luma position x: at the CTB's side, at a virtual boundary, at the line-buffer boundary

@@ -7,7 +7,7 @@ ghost use lib.Dec.{eqb};
 ghost use Rattle.alf_spec.specs.Lists.{elem};
 ghost use Rattle.alf_math.specs.Grids.{GridOf};
 ghost use Rattle.alf_boundary.specs.Clips.{axisOf};
-ghost use Rattle.alf_pieces.specs.Pieces.{nearer as nearerOf, nextBoundary, pieceEnd, pieceAt, either};
+ghost use Rattle.alf_pieces.specs.Pieces.{nearer as nearerOf, nextBoundary, pieceEnd, pieceAt, scaled as scaledBy, either};
 use alf_boundary::isolation::is_listed;
 use alf_boundary::padding::least;
 use alf_spec::Grid;
@@ -158,4 +158,17 @@ pub fn row_piece(
         q,
         y,
     )
+}
+
+// A piece of the luma plane, in the samples of a plane with this ratio to luma: what bounds a piece is a multiple of 4 luma samples.
+pub fn scaled(piece: Piece, ratio: u32) -> Piece
+    requires { ⌜ 0 < ratio ⌝ }
+    ensures { λ r. ⌜ r ≡ scaledBy ratio piece ⌝ }
+{
+    Piece {
+        start: piece.start / ratio,
+        end: piece.end / ratio,
+        lowest: piece.lowest / ratio,
+        limit: piece.limit / ratio,
+    }
 }

@@ -1,0 +1,1 @@
+-- Laws that the proofs of this crate, and of those above it, cite.

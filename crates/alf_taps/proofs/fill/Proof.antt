@@ -1,0 +1,46 @@
+-- `alf_taps::fill` meets its contract: the columns before x are written. Assumes nothing.
+use mathlib.Core.Path.{_≡_, refl}
+use Prim.Native.Nat.{_-_, _≤_}
+use native.Mathlib.Nat.{le-antisymm}
+use native.Mathlib.Omega.{arith}
+use borrow.Author.Needs.{needs}
+use lib.IntN.{pos}
+use lib.ListN.{length-set}
+use mir.Syntax.{w16}
+use mir.Val.{toZ}
+use mir.Facts.{toZ-ofZ}
+use Rattle.alf_pieces.specs.Regions.{between}
+use Rattle.alf_pieces.specs.Filled.{Filled}
+use Rattle.alf_pieces.proofs.Painted.{fill-none, fill-set}
+use Rattle.alf_pieces.proofs.Regions.{run-none, run-more}
+use Rattle.alf_taps.specs.Spread.{same}
+use Rattle.alf_taps.proofs.fill.Statement.{statement}
+use Rattle.alf_taps.proofs.fill.Tie as tie
+
+abbrev Inv-loop : tie.InvT-loop
+Inv-loop taps₀ at n v x₀ taps x = (x ≤ n) × Filled (pos 0) taps₀ (between at x) (same (toZ w16 v)) taps
+
+abbrev μ-loop : tie.MeasureT-loop
+μ-loop taps₀ at n v x₀ taps x = n - x
+
+returns : tie.Need-returns Inv-loop μ-loop
+returns c =
+    let inv = c .before .loop .inv in
+    let s = c .before .before in
+    simp (toZ-ofZ, s .fits .v) at (rw (le-antisymm (inv .0) (c .loop-test .left)) at (inv .1))
+
+pub fill-spec : {M : Type 1} → statement M
+fill-spec =
+    tie.close
+    (tie.spec
+    Inv-loop
+    μ-loop
+    (λ c. (omega arith, fill-none (run-none _)))
+    (λ c. omega arith)
+    (λ c. omega arith)
+    (λ c. omega arith)
+    (λ c. omega arith)
+    (λ c. omega arith)
+    (λ c. (omega arith, fill-set _ _ (c .before .loop .inv .1) (omega arith) refl (λ k h. run-more _ _ k)))
+    (λ c. search needs)
+    returns)

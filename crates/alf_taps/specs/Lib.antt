@@ -1,0 +1,2 @@
+-- What the contracts of this crate, and of the kernels above it, say beside the definitions of `alf_spec`.
+pub mod Spread
