@@ -3,7 +3,7 @@ use mathlib.Core.Path.{_≡_, refl}
 use mathlib.Core.Bool.{true}
 use mathlib.Core.List.{List}
 use Prim.Native.Nat.{ℕ, _*_, _/_, _%_, _≤_, _<_}
-use native.Mathlib.Nat.{div-one}
+use native.Mathlib.Nat.{mul-comm, mul-le-mul-right, div-one}
 use native.Mathlib.Omega.{arith}
 use Rattle.alf_spec.specs.declared.Picture.{Picture}
 use Rattle.alf_spec.specs.declared.Grid.{Grid}
@@ -12,15 +12,32 @@ use Rattle.alf_spec.specs.Geometry.{ctbSize, planeOf, planeLength, classPlane}
 use Rattle.alf_spec.specs.Faults.{virtualListValid, fault}
 use Rattle.alf_spec.proofs.Accepted.{Accepted, accepted, lists-valid, luma-length, luma-samples, output-length}
 use Rattle.alf_math.specs.Grids.{GridOf}
-use Rattle.alf_math.proofs.Grids.{sample-bound}
+use Rattle.alf_math.proofs.Grids.{width-bounds, height-bounds, sample-bound}
 use Rattle.alf_boundary.proofs.CtbAddresses.{ctb-in-picture}
+use Rattle.alf_pieces.specs.declared.pieces.Piece.{Piece}
+use Rattle.alf_pieces.specs.Pieces.{BlockPiece}
 use Rattle.alf_pieces.specs.Copies.{area}
-use Rattle.alf_classify.specs.Work.{ClassWork}
+use Rattle.alf_classify.specs.Work.{ClassWork, MapRoom}
+use Rattle.alf_classify.proofs.PieceRows.{blocks}
 
 -- lists of the same lengths
 pub work-same : {p : Picture} {g : Grid} {luma : List ℕ} {copy copy′ differences differences′ map map′ : ℕ} → ClassWork p g luma copy differences map
     → copy′ ≡ copy → differences′ ≡ differences → map′ ≡ map → ClassWork p g luma copy′ differences′ map′
 work-same w e f h = rw (e, f, h) w
+
+-- the picture's own map has room for a piece of it
+pub own-map : {p : Picture} {g : Grid} {luma : List ℕ} {copy differences map : ℕ} {columns rows : Piece} → ClassWork p g luma copy differences map
+    → BlockPiece (p .width) columns → BlockPiece (p .height) rows → MapRoom columns rows (p .width / 4) (columns .start / 4) (rows .start / 4) map
+own-map {p} work across down =
+    let r = work .rooms in
+    let a = blocks across in
+    let d = blocks down in
+    record {
+      narrow = omega (arith, width-bounds p (r .sizes) (r .ctbSize));
+      short = omega (arith, height-bounds p (r .sizes) (r .ctbSize), d .last, d .upto);
+      across = omega (arith, a .last, a .upto);
+      down = rw (work .mapLength, mul-comm (p .width / 4)) (mul-le-mul-right (p .width / 4) (omega (arith, d .last, d .upto)));
+    }
 
 -- a CTB is whole blocks
 pub whole-blocks : (b : ℕ) → b % 8 ≡ 0 → b / 4 * 4 ≡ b
@@ -45,8 +62,8 @@ module _ (l : Layout) (luma : List ℕ) (n : ℕ) (ok : fault classes (classesIn
         depth = accepted-classes .bitDepth;
         copyRoom = copyRoom;
         differenceRoom = differenceRoom;
-        mapLength = map-length;
       };
+      mapLength = map-length;
       lumaLength = rw (div-one (l .picture .width), div-one (l .picture .height)) at (luma-length classes (classesInput l luma n) ok refl);
       samples = λ k. sample-bound (l .picture) (accepted-classes .bitDepth) (luma-samples classes (classesInput l luma n) ok refl k);
     }

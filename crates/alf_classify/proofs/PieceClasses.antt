@@ -21,14 +21,21 @@ use Rattle.alf_spec.proofs.IsolatedRegions.Ratios.{whole}
 use Rattle.alf_math.specs.Grids.{GridOf}
 use Rattle.alf_pieces.specs.declared.pieces.Piece.{Piece}
 use Rattle.alf_pieces.specs.Regions.{between, inRect}
-use Rattle.alf_pieces.specs.Pieces.{PieceOf, CtbOf}
-use Rattle.alf_pieces.specs.Copies.{pitch, copyLength, copied, copyAt}
-use Rattle.alf_pieces.proofs.Regions.{Inside, rect-facts}
+use Rattle.alf_pieces.specs.Pieces.{PieceOf, BlockPiece, CtbOf}
+use Rattle.alf_pieces.specs.Copies.{pitch, copyLength, copyAt}
+use Rattle.alf_pieces.proofs.Regions.{rect-facts}
+use Rattle.alf_pieces.proofs.PieceWalk.{block-piece}
 use Rattle.alf_pieces.proofs.CtbPieces.{column-facts, row-facts}
-use Rattle.alf_pieces.proofs.CopyReads.{copy-reads}
-use Rattle.alf_pieces.proofs.CopySamples.{copy-at, window-in}
+use Rattle.alf_pieces.proofs.CopySamples.{window-in}
+use Rattle.alf_pieces.proofs.CopyHolds.{copy-holds}
 use Rattle.alf_classify.specs.Windows.{copyWindow}
 use Rattle.alf_classify.specs.Work.{rowWindow, copyClassAt}
+
+-- block b of an axis, in a piece: its first sample, from the axis's first and from the piece's
+block-in : {n : ℕ} {p : Piece} → BlockPiece n p → (b : ℕ) → p .start / 4 ≤ b → b < p .end / 4
+    → (b * 4 % 4 ≡ 0) × (p .start ≤ b * 4) × (b * 4 < p .end) × (4 * (b - p .start / 4) ≡ b * 4 - p .start)
+    × (p .start + (b * 4 - p .start) ≡ b * 4)
+block-in B b low high = omega (arith, B .start4, B .end4)
 
 module _ {l : Layout} {p : Picture} {c : Ctb} {s : Sides} (ctb : CtbOf l p c s) {g : Grid} (grid : GridOf p g) {columns rows : Piece}
     (across : PieceOf (lumaPlane l .columns) (columnDisabled l c) (c .column) columns) (down : PieceOf (lumaPlane l .rows) (rowDisabled l c) (c .row) rows)
@@ -44,34 +51,33 @@ module _ {l : Layout} {p : Picture} {c : Ctb} {s : Sides} (ctb : CtbOf l p c s) 
         ≡ getD copy ((y - rows .start + k / 10) * pitch columns + (x - columns .start + k % 10)) 0
     unfolding planeOf
     window-at k h =
-        let i : ℕ = x - columns .start + k % 10 in
-        let j : ℕ = y - rows .start + k / 10 in
-        let inColumns = column-facts ctb 1 1 whole across in
-        let inRows = row-facts ctb 1 1 whole down in
         let width : l .picture .width / 1 ≡ p .width = rw (ctb .picture) (omega arith) in
-        sym (copy-reads l c s (ctb .sides) 1 1 columns rows inColumns inRows x y (x + k % 10 - 3) (y + k / 10 - 3) i j
+        copy-holds ctb 1 1 whole whole across down luma copy copy0 width copies room x y _ _ (x - columns .start + k % 10) (y - rows .start + k / 10)
         (window-in (lumaPlane l .columns) columns x (k % 10) refl left right x4 (omega arith))
-        (window-in (lumaPlane l .rows) rows y (k / 10) refl top bottom y4 (omega arith)) (omega arith) (omega arith) luma)
-        ∙ ap (λ (w : ℕ). copied columns rows s luma w i j) width
-        ∙ sym (copy-at columns rows s luma copy copy0 (p .width) copies room i j
-        (omega (arith, inColumns .end4)) (omega (arith, inRows .end4)))
+        (window-in (lumaPlane l .rows) rows y (k / 10) refl top bottom y4 (omega arith)) (omega arith) (omega arith)
+        (omega (arith, column-facts ctb 1 1 whole across .end4)) (omega (arith, row-facts ctb 1 1 whole down .end4))
 
     window-same : classWindow l luma x y ≡ copyWindow copy (pitch columns) (x - columns .start) (y - rows .start)
     unfolding classWindow copyWindow
     window-same = tabulate-same 100 _ _ window-at
 
-  -- the block of entry k
+    -- its class
+    pub block-class : blockClass l luma x y
+        ≡ classOf (p .«bit_depth») (rowWindow (p .height) (g .ctb) y) (copyWindow copy (pitch columns) (x - columns .start) (y - rows .start))
+    unfolding planeOf blockClass lineRule
+    block-class =
+        rw (grid .ctb, ← (ctb .picture))
+        (ap (λ (w : List ℕ). classOf (l .picture .«bit_depth») (rowWindow (l .picture .height) (ctbSize (l .picture)) y) w) window-same)
+
+  -- the block of entry k of the picture's map
   pub class-same : (k : ℕ) → inRect (p .width / 4) (columns .start / 4) (columns .end / 4) (rows .start / 4) (rows .end / 4) k ≡ true
-      → copyClassAt p (g .ctb) copy columns rows k ≡ classAt l luma k
-  unfolding planeOf copyClassAt classAt blockClass lineRule
+      → copyClassAt p (g .ctb) copy columns rows (p .width / 4) (columns .start / 4) (rows .start / 4) k ≡ classAt l luma k
+  unfolding planeOf copyClassAt classAt
   class-same k t =
-      let f : Inside (l .picture .width / 4) (columns .start / 4) (columns .end / 4) (rows .start / 4) (rows .end / 4) k =
-      rw (ctb .picture) (rect-facts (p .width / 4) (columns .start / 4) (columns .end / 4) (rows .start / 4) (rows .end / 4) k t) in
-      let inColumns = column-facts ctb 1 1 whole across in
-      let inRows = row-facts ctb 1 1 whole down in
-      let x : ℕ = k % (l .picture .width / 4) * 4 in
-      let y : ℕ = k / (l .picture .width / 4) * 4 in
-      let window = window-same x y (omega arith) (omega arith)
-      (omega (arith, inColumns .start4)) (omega (arith, inColumns .end4)) (omega (arith, inRows .start4)) (omega (arith, inRows .end4)) in
-      rw (grid .ctb, ← (ctb .picture)) (ap (λ (w : List ℕ). classNumber (classOf (l .picture .«bit_depth»)
-      (rowWindow (l .picture .height) (ctbSize (l .picture)) y) w)) (sym window))
+      let f = rect-facts (p .width / 4) (columns .start / 4) (columns .end / 4) (rows .start / 4) (rows .end / 4) k t in
+      let x = block-in (block-piece (column-facts ctb 1 1 whole across)) (k % (p .width / 4)) (f .0) (f .1) in
+      let y = block-in (block-piece (row-facts ctb 1 1 whole down)) (k / (p .width / 4)) (f .2) (f .3) in
+      let wide : p .width ≡ l .picture .width = rw (ctb .picture) in
+      rw (x .3, y .3, y .4)
+      (ap classNumber (sym (block-class _ _ (x .0) (y .0) (x .1) (x .2) (y .1) (y .2)))
+      ∙ ap (λ (w : ℕ). classNumber (blockClass l luma (k % (w / 4) * 4) (k / (w / 4) * 4))) wide)

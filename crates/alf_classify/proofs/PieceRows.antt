@@ -14,33 +14,27 @@ use Rattle.alf_pieces.specs.declared.pieces.Piece.{Piece}
 use Rattle.alf_pieces.specs.Pieces.{BlockPiece}
 use Rattle.alf_pieces.specs.Copies.{extent, pitch as pitchOf, copyLength, area}
 use Rattle.alf_pieces.specs.Regions.{between}
-use Rattle.alf_pieces.proofs.Regions.{run-facts, row-of}
+use Rattle.alf_pieces.proofs.Regions.{run-facts, row-of, row-room}
 use Rattle.alf_pieces.proofs.CopyRooms.{copy-fits}
 use Rattle.alf_classify.specs.Windows.{copyWindow, Differences, blockSums, SmallRuns, rowClass}
 use Rattle.alf_classify.specs.Work.{rowWindow, copyClassAt}
 use Rattle.alf_classify.proofs.DifferenceLists.{small-runs}
 use Rattle.alf_classify.proofs.WindowSums.{RowBounds, row-bounds, window-sums}
 
--- what stands before the rows of a piece are classified: its copy, and the differences of the copy
-pub record Prepared (p : Picture) (columns rows : Piece) (copy d : List ℕ) (map pitch count : ℕ) : Type 0 where
-  pub across : BlockPiece (p .width) columns
-  pub down : BlockPiece (p .height) rows
-  pub width : p .width ≤ 4096
-  pub height : p .height ≤ 4096
-  pub mapLength : map ≡ p .width / 4 * (p .height / 4)
-  pub pitchIs : pitch ≡ extent columns + 6
-  pub countIs : count ≡ extent columns / 4
+-- what stands before the rows of a piece, each of so many blocks, are classified: its copy, and the differences of the copy
+pub record Prepared (rows : Piece) (copy d : List ℕ) (pitch count : ℕ) : Type 0 where
+  pub few : count ≤ 32
+  pub pitchIs : pitch ≡ 4 * count + 6
   pub samples : (k : ℕ) → k < (extent rows + 6) * pitch → getD copy k 0 < 4096
+  pub small : (extent rows + 6) * pitch ≤ area
   pub room : 4 * area ≤ length d
   pub differences : Differences copy pitch ((extent rows + 6) * pitch) d
 
 -- along an axis of n samples: whole blocks
 pub record Blocks (n : ℕ) (p : Piece) : Type 0 where
-  pub some : 4 ≤ extent p
   pub few : extent p ≤ 128
   pub whole : extent p ≡ 4 * (extent p / 4)
   pub last : p .start / 4 + extent p / 4 ≡ p .end / 4
-  pub start : p .start ≡ 4 * (p .start / 4)
   pub upto : p .end / 4 ≤ n / 4
 
 pub blocks : {n : ℕ} {p : Piece} → BlockPiece n p → Blocks n p
@@ -52,7 +46,7 @@ blocks {n} {p} B =
     let small = N .small in
     let high = N .high in
     let inside = N .inside in
-    record { some = omega arith; few = omega arith; whole = omega arith; last = omega arith; start = omega arith; upto = omega arith }
+    record { few = omega arith; whole = omega arith; last = omega arith; upto = omega arith }
 
 -- the windows of a row of blocks, which begin at row t of the copy and reach so many pairs of rows: the differences that they need
 row-fits : (t first pairs pitch count : ℕ) → (1 ≤ first) × (first + 2 * pairs ≤ 9) × (3 ≤ pairs) × (pitch ≡ 4 * count + 6)
@@ -71,77 +65,58 @@ copy-bounds {columns = columns} {rows = rows} across down =
     let low : 6 * pitchOf columns ≤ copyLength columns rows = mul-le-mul-right (pitchOf columns) (omega arith) in
     (omega arith, copy-fits (across .numbers) (down .numbers) (omega arith))
 
-pub last-column : {p : Picture} {columns rows : Piece} {copy d : List ℕ} {map pitch count : ℕ} → Prepared p columns rows copy d map pitch count
-    → columns .start / 4 + count ≡ columns .end / 4
-last-column P = omega (arith, P .countIs, blocks (P .across) .last)
-
-module _ (p : Picture) (ctb : ℕ) (columns rows : Piece) (copy d : List ℕ) {map pitch count : ℕ} (P : Prepared p columns rows copy d map pitch count)
-    (row : ℕ) (low : rows .start / 4 ≤ row) (high : row < rows .end / 4) where
-  abbrev Window : WindowRows → Type 0
-  Window w = w ≡ rowWindow (p .height) ctb (4 * row)
-
-  -- the row's first sample, in the piece
-  abbrev top : ℕ
-  top = 4 * row - rows .start
+module _ (p : Picture) (ctb : ℕ) (rows : Piece) (copy d : List ℕ) {pitch count : ℕ} (P : Prepared rows copy d pitch count)
+    (row : ℕ) (below : row < extent rows / 4) where
+  -- the row's first sample, in the picture
+  abbrev y : ℕ
+  y = rows .start + 4 * row
 
   -- the windows lie in the copy
-  top-inside : (rows .start ≤ 4 * row) × (top + 4 ≤ extent rows)
-  top-inside = let b = blocks (P .down) in omega (arith, b .start, b .last, b .whole)
+  rows-inside : (4 * row + 10) * pitch ≤ (extent rows + 6) * pitch
+  rows-inside = mul-le-mul-right pitch (omega arith)
 
-  rows-inside : (top + 10) * pitch ≤ (extent rows + 6) * pitch
-  rows-inside = let h = top-inside in mul-le-mul-right pitch (omega arith)
-
-  module _ (window : WindowRows) (w : Window window) (from at : ℕ) (f : from ≡ (top + window .first) * pitch + 1)
-      (a : at ≡ row * (p .width / 4) + columns .start / 4) where
+  module _ (window : WindowRows) (w : window ≡ rowWindow (p .height) ctb y) (from at : ℕ) (f : from ≡ (4 * row + window .first) * pitch + 1)
+      (mapColumns left top : ℕ) (fits : left + count ≤ mapColumns) (a : at ≡ (top + row) * mapColumns + left) where
     bounds : RowBounds window
-    bounds = rw w (row-bounds _ ctb (4 * row % ctb))
-
-    wide : pitch ≡ 4 * count + 6
-    wide = let b = blocks (P .across) in omega (arith, P .pitchIs, P .countIs, b .whole)
-
-    copy-small : (extent rows + 6) * pitch ≤ area
-    copy-small = rw (P .pitchIs) (copy-bounds (P .across) (P .down) .1)
+    bounds = rw w (row-bounds _ ctb (y % ctb))
 
     all-inside : (pitch + 1 ≤ from) × (from + (4 * count + 3) + (window .count / 2 * (2 * pitch) + 1 - pitch) + (pitch + 1) ≤ (extent rows + 6) * pitch)
     all-inside =
         let b = bounds in
-        let h = row-fits top (window .first) (window .count / 2) pitch count (b .0, b .1, b .2, wide) in
+        let h = row-fits (4 * row) (window .first) (window .count / 2) pitch count (b .0, b .1, b .2, P .pitchIs) in
         rw f (h .0, le-trans (h .1) rows-inside)
 
     -- what the row's function asks of places
-    pub row-ready : (count ≤ 32) × (1 ≤ pitch) × (at + count ≤ map)
+    pub row-ready : {map : ℕ} → (top + extent rows / 4) * mapColumns ≤ map → (1 ≤ pitch) × (at + count ≤ map)
         × (3 * area + from + (4 * count + 3) + (window .count / 2 * (2 * pitch) + 1 - pitch) ≤ length d)
         × SmallRuns d from (4 * count + 3) (window .count / 2 * (2 * pitch) + 1 - pitch)
-    row-ready =
+    row-ready room =
         let h = all-inside in
-        let c = blocks (P .across) in
-        let r = blocks (P .down) in
-        let below : (row + 1) * (p .width / 4) ≤ p .height / 4 * (p .width / 4) = mul-le-mul-right (p .width / 4) (omega (arith, r .upto)) in (
-          omega (arith, P .countIs, c .few),
-          omega (arith, wide),
-          omega (arith, a, last-column P, P .mapLength, c .upto, below),
-          omega (arith, h .1, copy-small, P .room),
-          small-runs copy pitch _ (P .samples) d from (4 * count + 3) _ (P .differences) (omega (arith, wide)) (h .0) (h .1),
+        let inMap = row-room (top + row) (top + extent rows / 4) mapColumns _ (omega arith) room in (
+          omega (arith, P .pitchIs),
+          omega (arith, a, fits, inMap),
+          omega (arith, h .1, P .small, P .room),
+          small-runs copy pitch _ (P .samples) d from (4 * count + 3) _ (P .differences) (omega (arith, P .pitchIs)) (h .0) (h .1),
         )
 
     -- the number of the block m places from the row's first
-    block-number : (m : ℕ) → m < count → let s = columns .start + 4 * m in
-        classOf (p .«bit_depth») window (copyWindow copy pitch (s - columns .start) top)
+    block-number : (m : ℕ) → m < count
+        → classOf (p .«bit_depth») window (copyWindow copy pitch (4 * m) (4 * row))
         ≡ classOfSums (p .«bit_depth») (window .factor) (blockSums d pitch (window .count / 2) (from + 4 * m))
     unfolding classOf
     block-number m h =
-        let column : columns .start + 4 * m - columns .start ≡ 4 * m = omega arith in
-        let place : (top + window .first) * pitch + (4 * m + 1) ≡ from + 4 * m = omega (arith, f) in
-        let sums : windowSums window (copyWindow copy pitch (4 * m) top) ≡ blockSums d pitch (window .count / 2) (from + 4 * m) =
-        rw (← place, w) (window-sums copy pitch (4 * m) top d _ (P .differences) (omega (arith, wide)) rows-inside _ ctb _) in
-        rw (column, sums)
+        let place : (4 * row + window .first) * pitch + (4 * m + 1) ≡ from + 4 * m = omega (arith, f) in
+        let sums : windowSums window (copyWindow copy pitch (4 * m) (4 * row)) ≡ blockSums d pitch (window .count / 2) (from + 4 * m) =
+        rw (← place, w) (window-sums copy pitch (4 * m) (4 * row) d _ (P .differences) (omega (arith, P .pitchIs)) rows-inside _ ctb _) in
+        rw sums
 
-    pub row-number : (k : ℕ) → between at count k ≡ true → rowClass d pitch window (p .«bit_depth») from at k ≡ copyClassAt p ctb copy columns rows k
+    -- whatever the piece's columns are, if its copy has that pitch
+    pub row-number : (columns : Piece) → pitchOf columns ≡ pitch → (k : ℕ) → between at count k ≡ true
+        → rowClass d pitch window (p .«bit_depth») from at k ≡ copyClassAt p ctb copy columns rows mapColumns left top k
     unfolding copyClassAt
-    row-number k t =
+    row-number columns e k t =
         let r = run-facts at count k t in
-        let c = blocks (P .across) in
-        let e = row-of (p .width / 4) row k (omega (arith, a)) (omega (arith, a, last-column P, c .upto)) in
-        let x : k % (p .width / 4) * 4 ≡ columns .start + 4 * (k - at) = omega (arith, a, c .start) in
-        let y : k / (p .width / 4) * 4 ≡ 4 * row = omega arith in
-        rw (x, y, ← P .pitchIs, ← w) (ap classNumber (sym (block-number (k - at) (omega arith))))
+        let place = row-of mapColumns (top + row) k (omega (arith, a)) (omega (arith, a, fits)) in
+        let s : 4 * (k % mapColumns - left) ≡ 4 * (k - at) = omega (arith, a) in
+        let t : 4 * (k / mapColumns - top) ≡ 4 * row = omega arith in
+        rw (s, t, e, ← w) (ap classNumber (sym (block-number (k - at) (omega arith))))

@@ -2,7 +2,7 @@
 use mathlib.Core.Path.{_≡_}
 use mathlib.Core.Bool.{true}
 use mathlib.Core.List.{List, []}
-use Prim.Native.Nat.{ℕ, _-_, _*_, _/_, _%_, _≤_, _<_}
+use Prim.Native.Nat.{ℕ, _+_, _-_, _*_, _/_, _%_, _≤_, _<_}
 use lib.ListN.{length, getD}
 use Rattle.alf_spec.specs.declared.Picture.{Picture}
 use Rattle.alf_spec.specs.declared.Grid.{Grid}
@@ -14,34 +14,40 @@ use Rattle.alf_spec.specs.Faults.{pictureSizeValid, ctbSizeValid, bitDepthValid
 use Rattle.alf_math.specs.Grids.{GridOf}
 use Rattle.alf_boundary.specs.Clips.{axisOf}
 use Rattle.alf_pieces.specs.declared.pieces.Piece.{Piece}
-use Rattle.alf_pieces.specs.Copies.{pitch, area}
+use Rattle.alf_pieces.specs.Copies.{extent, pitch, area}
 use Rattle.alf_classify.specs.Windows.{copyWindow}
 
--- an accepted picture and its grid, and lists of these lengths: the copy of a piece, its differences, and the map
-pub record Rooms (p : Picture) (g : Grid) (copy differences map : ℕ) : Type 0 where
+-- an accepted picture and its grid, and lists of these lengths: the copy of a piece and its differences
+pub record Rooms (p : Picture) (g : Grid) (copy differences : ℕ) : Type 0 where
   pub grid : GridOf p g
   pub sizes : pictureSizeValid p ≡ true
   pub ctbSize : ctbSizeValid p ≡ true
   pub depth : bitDepthValid p ≡ true
   pub copyRoom : area ≤ copy
   pub differenceRoom : 4 * area ≤ differences
-  pub mapLength : map ≡ p .width / 4 * (p .height / 4)
 
--- and the picture's luma samples
+-- and the picture's map, and its luma samples
 pub record ClassWork (p : Picture) (g : Grid) (luma : List ℕ) (copy differences map : ℕ) : Type 0 where
-  pub rooms : Rooms p g copy differences map
+  pub rooms : Rooms p g copy differences
+  pub mapLength : map ≡ p .width / 4 * (p .height / 4)
   pub lumaLength : length luma ≡ p .width * p .height
   pub samples : (k : ℕ) → getD luma k 0 < 4096
+
+-- a map of so many entries, whose rows have mapColumns blocks, has room for the blocks of a piece, the first of them at column `left` and row `top`.
+-- The bounds of 1024 blocks, which every picture keeps, let places be added and multiplied.
+pub record MapRoom (columns rows : Piece) (mapColumns left top map : ℕ) : Type 0 where
+  pub narrow : mapColumns ≤ 1024
+  pub short : top + extent rows / 4 ≤ 1024
+  pub across : left + extent columns / 4 ≤ mapColumns
+  pub down : (top + extent rows / 4) * mapColumns ≤ map
 
 -- the rows that count in the window of a block whose first row is y
 abbrev pub rowWindow : ℕ → ℕ → ℕ → WindowRows
 rowWindow height ctb y = windowRows (lineRule (axisOf height ctb [] true 1) y) ctb (y % ctb)
 
--- the class and the transpose of the block of entry k of the map, from the copy of the piece in which it lies
-unfoldable pub copyClassAt : Picture → ℕ → List ℕ → Piece → Piece → ℕ → ℕ
-copyClassAt p ctb copy columns rows k =
-    let x = k % (p .width / 4) * 4 in
-    let y = k / (p .width / 4) * 4 in
-    classNumber
-    (classOf (p .«bit_depth») (rowWindow (p .height) ctb y)
-    (copyWindow copy (pitch columns) (x - columns .start) (y - rows .start)))
+-- the class and the transpose of the block of entry k of such a map, from the piece's copy
+unfoldable pub copyClassAt : Picture → ℕ → List ℕ → Piece → Piece → ℕ → ℕ → ℕ → ℕ → ℕ
+copyClassAt p ctb copy columns rows mapColumns left top k =
+    let s = 4 * (k % mapColumns - left) in
+    let t = 4 * (k / mapColumns - top) in
+    classNumber (classOf (p .«bit_depth») (rowWindow (p .height) ctb (rows .start + t)) (copyWindow copy (pitch columns) s t))

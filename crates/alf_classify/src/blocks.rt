@@ -7,9 +7,9 @@ ghost use Rattle.alf_spec.specs.Classes.{classOfSums};
 ghost use Rattle.alf_spec.specs.Process.{classNumber};
 ghost use Rattle.alf_pieces.specs.Regions.{between, inRect};
 ghost use Rattle.alf_pieces.specs.Pieces.{BlockPiece};
-ghost use Rattle.alf_pieces.specs.Copies.{area, copyLength};
+ghost use Rattle.alf_pieces.specs.Copies.{area, extent, copyLength};
 ghost use Rattle.alf_classify.specs.Windows.{SmallRuns, columnSums, columnClass, rowClass};
-ghost use Rattle.alf_classify.specs.Work.{Rooms, rowWindow, copyClassAt};
+ghost use Rattle.alf_classify.specs.Work.{Rooms, MapRoom, rowWindow, copyClassAt};
 use crate::differences::AREA;
 use crate::differences::all_differences;
 use crate::sums::block_sum;
@@ -114,24 +114,25 @@ fn row_window(height: u32, ctb: u32, y: u32) -> WindowRows
     window_rows(line_rule(height, ctb, y), ctb, y % ctb)
 }
 
-// Where the differences that count begin, for the given row of blocks of a piece that begins at row `start`.
-fn window_place(start: u32, row: u32, first: u32, pitch: usize) -> usize
-    requires { ⌜ (row ≤ 1024) × (start ≤ 4 * row) × (first ≤ 3) × (pitch ≤ 134) ⌝ }
-    ensures { λ r. ⌜ r ≡ (4 * row - start + first) * pitch + 1 ⌝ }
+// Where the differences that count begin, for the given row of blocks of a piece.
+fn window_place(row: u32, first: u32, pitch: usize) -> usize
+    requires { ⌜ (row ≤ 32) × (first ≤ 3) × (pitch ≤ 134) ⌝ }
+    ensures { λ r. ⌜ r ≡ (4 * row + first) * pitch + 1 ⌝ }
 {
-    (4 * row - start + first) as usize * pitch + 1
+    (4 * row + first) as usize * pitch + 1
 }
 
-// The place in the map of the block at luma column x, in the given row of blocks.
-fn map_place(width: u32, row: u32, x: u32) -> usize
-    requires { ⌜ (width ≤ 4096) × (row ≤ 1024) ⌝ }
-    ensures { λ r. ⌜ r ≡ row * (width / 4) + x / 4 ⌝ }
+// The place in the map of the first block in the given row of blocks of a piece.
+fn map_place(map_columns: usize, left: usize, top: usize, row: u32) -> usize
+    requires { ⌜ («map_columns» ≤ 1024) × (left ≤ 1024) × (top + row ≤ 1024) ⌝ }
+    ensures { λ r. ⌜ r ≡ (top + row) * «map_columns» + left ⌝ }
 {
-    row as usize * (width / 4) as usize + (x / 4) as usize
+    (top + row as usize) * map_columns + left
 }
 
-// The classes of the blocks of a piece, from its copy.
-pub(crate) fn piece_classes(
+// The classes of the blocks of a piece, from its copy. They go to a map whose rows have `map_columns` blocks, that of the picture or one of the
+// caller's own; the piece's first block stands at its column `left` and row `top`.
+pub fn piece_classes(
     picture: Picture,
     grid: Grid,
     columns: Piece,
@@ -139,13 +140,17 @@ pub(crate) fn piece_classes(
     copy: &[u16],
     differences: &mut [u16],
     map: &mut [u8],
+    map_columns: usize,
+    left: usize,
+    top: usize,
 )
-    requires { ⌜ (Rooms picture grid (length (now copy)) (length (now differences)) (length (now map)))
+    requires { ⌜ (Rooms picture grid (length (now copy)) (length (now differences)))
         × (BlockPiece (picture .width) columns) × (BlockPiece (picture .height) rows)
-        × ((k : ℕ) → k < copyLength columns rows → getD (now copy) k 0 < 4096) ⌝ }
+        × ((k : ℕ) → k < copyLength columns rows → getD (now copy) k 0 < 4096)
+        × (MapRoom columns rows «map_columns» left top (length (now map))) ⌝ }
     ensures { λ _. ⌜ now (map .exit) ≡ painted (now (map .entry))
-        (inRect (picture .width / 4) (columns .start / 4) (columns .end / 4) (rows .start / 4) (rows .end / 4))
-        (copyClassAt picture (grid .ctb) (now (copy .entry)) columns rows) ⌝ }
+        (inRect «map_columns» left (left + extent columns / 4) top (top + extent rows / 4))
+        (copyClassAt picture (grid .ctb) (now (copy .entry)) columns rows «map_columns» left top) ⌝ }
 {
     let width = extent(columns);
     let pitch = width + 6;
@@ -153,12 +158,12 @@ pub(crate) fn piece_classes(
     all_differences(copy, pitch, n, differences);
     let count = width / 4;
     let depth = picture.bit_depth as u32;
-    let end = rows.end / 4;
-    let mut row = rows.start / 4;
+    let end = (rows.end - rows.start) / 4;
+    let mut row = 0;
     while row < end {
-        let window = row_window(picture.height, grid.ctb, 4 * row);
-        let from = window_place(rows.start, row, window.first, pitch);
-        let at = map_place(picture.width, row, columns.start);
+        let window = row_window(picture.height, grid.ctb, rows.start + 4 * row);
+        let from = window_place(row, window.first, pitch);
+        let at = map_place(map_columns, left, top, row);
         class_row(differences, from, pitch, count, window, depth, map, at);
         row += 1;
     }

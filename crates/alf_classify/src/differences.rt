@@ -9,7 +9,7 @@ ghost use Rattle.alf_classify.specs.Windows.{differenceAt, differenceFro
 use alf_math::windows::second_difference;
 
 // A copy has at most 134 by 134 samples.
-pub(crate) const AREA: usize = 17956;
+pub const AREA: usize = 17956;
 
 // Of sample k of the copy and the two that lie `step` before and after it.
 fn difference(copy: &[u16], k: usize, step: usize) -> u16

@@ -50,7 +50,18 @@ fn class_piece(
         (inRect (picture .width / 4) (columns .start / 4) (columns .end / 4) (rows .start / 4) (rows .end / 4)) (classAt l (now (luma .entry)))) ⌝ }
 {
     copy_piece(luma, picture.width as usize, columns, rows, sides, copy);
-    piece_classes(picture, grid, columns, rows, copy, differences, map);
+    piece_classes(
+        picture,
+        grid,
+        columns,
+        rows,
+        copy,
+        differences,
+        map,
+        (picture.width / 4) as usize,
+        (columns.start / 4) as usize,
+        (rows.start / 4) as usize,
+    );
 }
 
 // The classes of the CTB's blocks in a piece of its rows.

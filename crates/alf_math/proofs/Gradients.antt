@@ -95,7 +95,11 @@ filter-small level main h =
     cond-either (λ n. n < 25) (eqb (strength main) 0) level (level + (main .direction % 2 * 2 + strength main) * 5)
     (omega arith) (omega (arith, strength-small main))
 
--- the number of a class fits a byte
-pub class-small : (depth factor : ℕ) (s : Sums) → classNumber (classOfSums depth factor s) < 128
+-- there are 25 classes and 4 transposes
+pub class-range : (depth factor : ℕ) (s : Sums) → (classOfSums depth factor s .filter < 25) × (classOfSums depth factor s .transpose < 4)
 unfolding classOfSums
-class-small depth factor s = omega (arith, transpose-small s, filter-small _ (mainGradient s) (activity-small depth factor (s .h + s .v)))
+class-range depth factor s = (filter-small _ (mainGradient s) (activity-small depth factor (s .h + s .v)), transpose-small s)
+
+-- so that the number of a class fits a byte
+pub class-small : (depth factor : ℕ) (s : Sums) → classNumber (classOfSums depth factor s) < 128
+class-small depth factor s = omega (arith, class-range depth factor s)

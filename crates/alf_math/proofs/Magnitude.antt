@@ -159,15 +159,15 @@ module _ (curr : ℕ) (f c : ℤ) (hf : natAbs f ≤ 128) (hc : natAbs c ≤ 409
   abs-tap u v = rw abs-mul (mul-le-mul hf (abs-pair u v))
 
 -- a sum of integers, each at most b
-pub abs-sum : (f : ℕ → ℤ) (b : ℕ) → ((j : ℕ) → natAbs (f j) ≤ b) → (n : ℕ) → natAbs (sumBelowℤ n f) ≤ n * b
+pub abs-sum : (f : ℕ → ℤ) (b n : ℕ) → ((j : ℕ) → j < n → natAbs (f j) ≤ b) → natAbs (sumBelowℤ n f) ≤ n * b
 unfolding sumBelowℤ
-abs-sum f b each zero = omega arith
-abs-sum f b each (suc n) = omega (arith, abs-add (sumBelowℤ n f) (f n), abs-sum f b each n, each n)
+abs-sum f b zero each = omega arith
+abs-sum f b (suc n) each = omega (arith, abs-add (sumBelowℤ n f) (f n), abs-sum f b n (λ j h. each j (omega arith)), each n (omega arith))
 
 -- all taps of a sample: with the 12 of luma, less than 2 ^ 24
-pub abs-tap-sum : (n curr : ℕ) (f c : ℕ → ℤ) → ((j : ℕ) → natAbs (f j) ≤ 128) → ((j : ℕ) → natAbs (c j) ≤ 4096) → (plus minus : List ℕ)
-    → natAbs (tapSum n curr f c plus minus) ≤ n * 2 ^ 20
+pub abs-tap-sum : (n curr : ℕ) (f c : ℕ → ℤ) → ((j : ℕ) → j < n → natAbs (f j) ≤ 128) → ((j : ℕ) → j < n → natAbs (c j) ≤ 4096)
+    → (plus minus : List ℕ) → natAbs (tapSum n curr f c plus minus) ≤ n * 2 ^ 20
 unfolding tapSum
 abs-tap-sum n curr f c hf hc plus minus =
-    abs-sum (λ j. tap curr (f j) (c j) (getD plus j 0) (getD minus j 0)) (2 ^ 20)
-    (λ j. abs-tap curr (f j) (c j) (hf j) (hc j) (getD plus j 0) (getD minus j 0)) n
+    abs-sum (λ j. tap curr (f j) (c j) (getD plus j 0) (getD minus j 0)) (2 ^ 20) n
+    (λ j h. abs-tap curr (f j) (c j) (hf j h) (hc j h) (getD plus j 0) (getD minus j 0))

@@ -12,7 +12,9 @@ use alf_math::taps::tap;
 
 // Of a filter's spread numbers, how many a row has, how many come before the clips, and how many there are.
 pub const COLUMNS: usize = 128;
+
 pub const CLIPS: usize = 1536;
+
 pub const SPREAD: usize = 3072;
 
 // A sum with one tap more, of the sample at column x: its two neighbours stand in the rows of the copy that begin at `plus` and at `minus`, in
@@ -34,13 +36,14 @@ pub fn add_tap(
     ensures { λ r. ⌜ r ≡ sum +ℤ tapOf curr (getD (now (taps .entry)) (at + x) (pos 0)) (getD (now (taps .entry)) (clipPlace + (at + x)) (pos 0))
         (getD (now (copy .entry)) (plus + x + i) 0) (getD (now (copy .entry)) (minus + x + j) 0) ⌝ }
 {
-    sum + tap(
-        curr,
-        taps[at + x],
-        taps[CLIPS + (at + x)],
-        copy[plus + x + i],
-        copy[minus + x + j],
-    )
+    sum
+        + tap(
+            curr,
+            taps[at + x],
+            taps[CLIPS + (at + x)],
+            copy[plus + x + i],
+            copy[minus + x + j],
+        )
 }
 
 // One number in n columns.

@@ -1,13 +1,12 @@
 -- `alf_classify::blocks::map_place` meets its contract. Assumes nothing.
-use Prim.Native.Nat.{_*_, _/_, _≤_}
+use Prim.Native.Nat.{_+_, _*_, _≤_}
 use native.Mathlib.Nat.{mul-le-mul}
-use native.Mathlib.Omega.{arith}
 use borrow.Author.Needs.{needs}
 use Rattle.alf_classify.proofs.blocks.map_place.Statement.{statement}
 use Rattle.alf_classify.proofs.blocks.map_place.Tie as tie
 
-few : (s : tie.Start) → s .args .row * (s .args .width / 4) ≤ 1048576
-few s = let narrow : s .args .width / 4 ≤ 1024 = omega arith in mul-le-mul (s .pre .1) narrow
+few : (s : tie.Start) → (s .args .top + s .args .row) * s .args .map-columns ≤ 1048576
+few s = mul-le-mul (s .pre .2) (s .pre .0)
 
 pub map-place-spec : {M : Type 1} → statement M
 map-place-spec =
@@ -15,6 +14,5 @@ map-place-spec =
     (tie.spec
     (λ c. search needs)
     (λ c. search (needs, few c))
-    (λ c. search needs)
     (λ c. search (needs, few c))
     (λ c. search needs))

@@ -1,19 +1,18 @@
 -- `alf_classify::blocks::window_place` meets its contract. Assumes nothing.
-use Prim.Native.Nat.{_+_, _-_, _*_, _≤_}
+use Prim.Native.Nat.{_+_, _*_, _≤_}
 use native.Mathlib.Nat.{mul-le-mul}
 use native.Mathlib.Omega.{arith}
 use borrow.Author.Needs.{needs}
 use Rattle.alf_classify.proofs.blocks.window_place.Statement.{statement}
 use Rattle.alf_classify.proofs.blocks.window_place.Tie as tie
 
-few : (s : tie.Start) → (4 * s .args .row - s .args .start + s .args .first) * s .args .pitch ≤ 549266
-few s = let low : 4 * s .args .row - s .args .start + s .args .first ≤ 4099 = omega arith in mul-le-mul low (s .pre .3)
+few : (s : tie.Start) → (4 * s .args .row + s .args .first) * s .args .pitch ≤ 17554
+few s = let low : 4 * s .args .row + s .args .first ≤ 131 = omega arith in mul-le-mul low (s .pre .2)
 
 pub window-place-spec : {M : Type 1} → statement M
 window-place-spec =
     tie.close
     (tie.spec
-    (λ c. search needs)
     (λ c. search needs)
     (λ c. search needs)
     (λ c. search needs)

@@ -7,7 +7,9 @@ use Rattle.alf_pieces.specs.Copies.{copyLength}
 use Rattle.alf_pieces.proofs.Painted.{paint-is, paint-of, paint-same}
 use Rattle.alf_pieces.proofs.CopySamples.{copy-small}
 use Rattle.alf_pieces.proofs.CopyRooms.{copy-fits, rows-fit}
+use Rattle.alf_classify.proofs.PieceRows.{blocks}
 use Rattle.alf_classify.proofs.PieceClasses.{class-same}
+use Rattle.alf_classify.proofs.ClassWorks.{own-map}
 use Rattle.alf_classify.proofs.map.class_piece.Statement.{statement}
 use Rattle.alf_classify.proofs.map.class_piece.Tie as tie
 
@@ -28,21 +30,24 @@ room c = copy-fits (start c .pre .1 .numbers) (start c .pre .2 .numbers) (start 
 
 piece-classes-requires : tie.Need-piece-classes-requires
 piece-classes-requires c κs =
-    let f = c .before .before .before .before .before in
+    let f = c .before .before .before .before .before .before .before .before in
     let copies = f .copy-piece .ensures in
     let pre = start f .pre in (
       rw (paint-of copies .len) (pre .0 .rooms),
       pre .1,
       pre .2,
       copy-small _ _ _ _ _ _ _ copies (room f) 4096 (pre .0 .samples),
+      own-map (pre .0) (pre .1) (pre .2),
     )
 
 returns : tie.Need-returns
 returns c =
-    let f = c .before .before .before .before .before .before .before .before .before .before in
+    let f = c .before .before .before .before .before .before .before .before .before .before .before .before .before in
+    let pre = start f .pre in
+    let written = rw (blocks (pre .1) .last, blocks (pre .2) .last) at (c .before .before .before .before .piece-classes .ensures) in
     λ l ctb of across down.
-    paint-is (paint-same (paint-of (c .before .before .before .before .piece-classes .ensures)) (λ k h. refl)
-    (λ k h. class-same of (start f .pre .0 .rooms .grid) across down _ _ _ (f .copy-piece .ensures) (room f) k))
+    paint-is (paint-same (paint-of written) (λ k h. refl)
+    (λ k h. class-same of (pre .0 .rooms .grid) across down _ _ _ (f .copy-piece .ensures) (room f) k))
 
 pub class-piece-spec : {M : Type 1} → statement M
 class-piece-spec =
@@ -50,6 +55,9 @@ class-piece-spec =
     (tie.spec
     (λ c. search needs)
     copy-piece-requires
+    (λ c. search needs)
+    (λ c. search needs)
+    (λ c. search needs)
     piece-classes-requires
     (λ c. search needs)
     (λ c. search needs)

@@ -1,0 +1,42 @@
+-- How large a filter's numbers and the places of the tap order are. Assumes nothing.
+use mathlib.Core.Path.{_≡_, sym, ap}
+use mathlib.Core.Bool.{cond}
+use mathlib.Core.List.{List}
+use mathlib.Core.Logic.{_⊎_, ⊎-elim}
+use Prim.Native.Nat.{ℕ, _+_, _*_, _-_, _/_, _%_, _≤_, _<_}
+use native.Mathlib.Omega.{arith}
+use lib.Dec.{ltb}
+use lib.IntN.{ℤ, pos, natAbs}
+use lib.ListN.{length, getD, List·getD-eq-default}
+use borrow.Author.Tests.{lt-ltb, le-ltb}
+use Rattle.alf_spec.specs.Luma.{tapOrder}
+use Rattle.alf_spec.proofs.TapOrder.{each-below}
+use Rattle.alf_pieces.proofs.Regions.{order}
+use Rattle.alf_luma.specs.Filters.{FilterNumbers, tapPlace, Places}
+
+-- coefficients and clips alike fit 16 bits
+pub numbers-small : {filters : List ℤ} → FilterNumbers filters → (k : ℕ) → natAbs (getD filters k (pos 0)) ≤ 4096
+numbers-small {filters} h k =
+    ⊎-elim (λ l. ⊎-elim (low l) (high l) (order (k % 24) 12)) (λ l. rw (List·getD-eq-default filters (pos 0) {n = k} (omega (arith, h .count))) (omega arith))
+    (order k 600)
+  where
+    low : k < 600 → k % 24 < 12 → natAbs (getD filters k (pos 0)) ≤ 4096
+    low l m =
+        let e : 24 * (k / 24) + k % 24 ≡ k = omega arith in
+        omega (arith, rw e at (h .coefficients (k / 24) (k % 24) (omega arith) m))
+
+    high : k < 600 → 12 ≤ k % 24 → natAbs (getD filters k (pos 0)) ≤ 4096
+    high l m =
+        let e : 24 * (k / 24) + (12 + (k % 24 - 12)) ≡ k = omega arith in
+        rw e at (h .clips (k / 24) (k % 24 - 12) (omega arith) (omega arith) .small)
+
+pub place-small : (transpose j : ℕ) → transpose < 4 → j < 24 → tapPlace transpose j < 24
+unfolding tapPlace
+place-small t j ht hj = ⊎-elim
+    (λ l. rw (lt-ltb j 12 l) (omega (arith, each-below t ht j l)))
+    (λ l. rw (le-ltb j 12 l) (omega (arith, each-below t ht (j - 12) (omega arith))))
+    (order j 12)
+
+-- the order of one transpose in the table
+pub places-small : {places : List ℕ} → Places places → (transpose : ℕ) → transpose < 4 → (j : ℕ) → j < 24 → getD places (24 * transpose + j) 0 < 24
+places-small p t ht j hj = rw (p .entries t j ht hj) (place-small t j ht hj)

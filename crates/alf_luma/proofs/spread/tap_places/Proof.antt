@@ -1,0 +1,52 @@
+-- `alf_luma::spread::tap_places` meets its contract: the places before k are written. Assumes nothing.
+use mathlib.Core.Path.{_≡_, ap₂, _∙_}
+use Prim.Native.Nat.{ℕ, _+_, _*_, _-_, _/_, _%_, _≤_}
+use native.Mathlib.Nat.{le-antisymm}
+use native.Mathlib.Omega.{arith}
+use borrow.Author.Needs.{needs}
+use lib.ListN.{length}
+use Rattle.alf_pieces.specs.Regions.{between}
+use Rattle.alf_pieces.proofs.Painted.{Paint, paint-none, paint-set, paint-in}
+use Rattle.alf_pieces.proofs.Regions.{run-none, run-next, in-run}
+use Rattle.alf_luma.specs.Filters.{tapPlace, placeAt}
+use Rattle.alf_luma.proofs.spread.tap_places.Statement.{statement}
+use Rattle.alf_luma.proofs.spread.tap_places.Tie as tie
+
+abbrev Inv-loop : tie.InvT-loop
+Inv-loop places₀ k₀ places k = (k ≤ 96) × (length places₀ ≡ 96) × Paint places₀ (between 0 k) placeAt places
+
+abbrev μ-loop : tie.MeasureT-loop
+μ-loop places₀ k₀ places k = 96 - k
+
+loop-again : tie.Need-loop-again Inv-loop μ-loop
+loop-again c =
+    let inv = c .before .before .loop .inv in
+    (omega arith, inv .1, paint-set _ _ (inv .2) (omega arith) (c .tap-place .ensures .0) (λ k h. run-next _ k))
+
+returns : tie.Need-returns Inv-loop μ-loop
+returns c =
+    let l = c .before .loop in
+    let inv = l .inv in
+    let done : l .k ≡ 96 = le-antisymm (inv .0) (c .loop-test .left) in
+    record {
+      count = omega (arith, inv .2 .len);
+      entries = λ t j ht hj.
+          paint-in (inv .2) (24 * t + j) (omega arith) (in-run 0 (l .k) (24 * t + j) (omega arith))
+          ∙ ap₂ tapPlace (omega arith) (omega arith);
+    }
+
+pub tap-places-spec : {M : Type 1} → statement M
+tap-places-spec =
+    tie.close
+    (tie.spec
+    Inv-loop
+    μ-loop
+    (λ c. (omega arith, c .before .pre, paint-none (run-none 0)))
+    (λ c κs. omega arith)
+    (λ c. omega (arith, c .tap-place .ensures .1))
+    (λ c. omega arith)
+    (λ c. omega arith)
+    (λ c. omega arith)
+    loop-again
+    (λ c. search needs)
+    returns)
