@@ -1,4 +1,9 @@
 // The luma filter of a piece of a CTB: its classes, the filters of its blocks spread over the columns, and its samples, row by row.
 mod kernel;
+mod piece;
 mod rows;
 mod spread;
+
+pub use piece::filter_piece;
+pub use spread::PLACES;
+pub use spread::tap_places;

@@ -110,7 +110,7 @@ module _ (l : Layout) (c : Ctb) (s : Sides) (sides : SidesOf l c s) (columnRatio
     abbrev v : ℕ
     v = held (rows .lowest) (rows .limit) q
 
-    own-ctb : ctbAt g x y ≡ c
+    pub own-ctb : ctbAt (planeOf l columnRatio rowRatio) x y ≡ c
     own-ctb = rw (ctb-is (g .columns) _ (c .column) columns across x p in-columns, ctb-is (g .rows) _ (c .row) rows down y q in-rows)
 
     column-clip : columnClip l g x y ≡ clipPosition (g .columns) (lumaPosition (g .columns) x) (columnDisabled l c)
