@@ -3,6 +3,7 @@ mod positions;
 
 ghost use Prim.Native.Nat.{_^_, _≤_, _<_};
 ghost use lib.IntN.{natAbs};
+ghost use Rattle.alf_math.specs.Integers.{ClipRange};
 use alf_math::direction::activity;
 use alf_math::direction::class_of_sums;
 use alf_math::rounding::filtered;
@@ -88,7 +89,7 @@ fn show_activity(total: u32)
 
 // A clip, and sample 10 filtered with it: right 14, left 10, coefficient 11 alone set, to 64.
 fn show_filtered(c: i16)
-    requires { ⌜ natAbs c ≤ 4096 ⌝ }
+    requires { ⌜ ClipRange c ⌝ }
 {
     show(c as i32, filtered(10, tap(10, 64, c, 14, 10), 7, 8) as i32);
 }

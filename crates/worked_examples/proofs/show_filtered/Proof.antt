@@ -18,8 +18,8 @@ show-filtered-spec =
     tie.close
     (tie.spec
     (λ c. let f = c .fits .c in simp (words, f) (widened f))
-    (λ c κs. search needs)
-    (λ c κs. rw (result c) (omega (arith, abs-tap 10 (pos 64) (c .before .args .c) (omega arith) (c .before .pre) 14 10)))
+    (λ c κs. simp (words, c .fits .c) (omega arith, omega arith, c .pre, omega arith, omega arith))
+    (λ c κs. rw (result c) (omega (arith, abs-tap 10 (pos 64) (c .before .args .c) (omega arith) (c .before .pre .small) 14 10)))
     (λ c. search needs)
-    (λ c κs. simp (words, c .before .before .fits .c, back w32 (c .filtered .result) (omega arith)) (omega arith))
+    (λ c κs. simp (words, c .before .before .fits .c, back w32 (c .filtered .result) (omega arith)) (omega (arith, c .before .before .pre .small)))
     (λ c. search needs))

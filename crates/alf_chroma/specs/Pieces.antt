@@ -1,0 +1,81 @@
+-- What a piece is filtered from, and what its copy says of its samples. Assumes nothing.
+use mathlib.Core.Path.{_≡_}
+use mathlib.Core.Bool.{true}
+use mathlib.Core.List.{List, []}
+use Prim.Native.Nat.{ℕ, _+_, _-_, _*_, _/_, _%_, _≤_, _<_}
+use lib.IntN.{ℤ, pos}
+use lib.ListN.{length, getD}
+use Rattle.alf_spec.specs.declared.ChromaRows.{ChromaRows}
+use Rattle.alf_spec.specs.declared.Ctb.{Ctb}
+use Rattle.alf_spec.specs.declared.Grid.{Grid}
+use Rattle.alf_spec.specs.declared.Picture.{Picture}
+use Rattle.alf_spec.specs.Input.{Input}
+use Rattle.alf_spec.specs.Geometry.{subWidth, subHeight, lumaPosition, lineRule, bottomDistance}
+use Rattle.alf_spec.specs.Parameters.{chromaAps, chromaAlternative, chromaCoeff, chromaClip}
+use Rattle.alf_spec.specs.Chroma.{chromaRows}
+use Rattle.alf_spec.specs.Faults.{pictureSizeValid, ctbSizeValid, bitDepthValid}
+use Rattle.alf_math.specs.Grids.{GridOf}
+use Rattle.alf_math.specs.Integers.{CoeffRange, ClipRange}
+use Rattle.alf_boundary.specs.Clips.{axisOf}
+use Rattle.alf_pieces.specs.declared.pieces.Piece.{Piece}
+use Rattle.alf_pieces.specs.Pieces.{PieceIn}
+use Rattle.alf_pieces.specs.Copies.{pitch, copyLength, area}
+use Rattle.alf_taps.specs.Spread.{spreadCoeff, spreadClip, TapNumbers}
+use Rattle.alf_chroma.specs.Samples.{pieceSample}
+
+-- ---- a filter: 6 coefficients, and then 6 clips
+
+-- (1506), (1507): the one that a CTB of an input has for a component
+pub record ChromaFilter (i : Input) (c : Ctb) (component : ℕ) (filters : List ℤ) : Type 0 where
+  pub coefficients : (j : ℕ) → j < 6 → getD filters j (pos 0) ≡ chromaCoeff i (chromaAps i c) (chromaAlternative i c component) j
+  pub clips : (j : ℕ) → j < 6 → getD filters (6 + j) (pos 0) ≡ chromaClip i (chromaAps i c) (chromaAlternative i c component) j
+
+-- the numbers of its first `count` taps stand in the first n columns
+pub record Spread (filters : List ℤ) (count n : ℕ) (taps : List ℤ) : Type 0 where
+  pub coefficients : (j x : ℕ) → j < count → x < n → spreadCoeff taps x j ≡ getD filters j (pos 0)
+  pub clips : (j x : ℕ) → j < count → x < n → spreadClip taps x j ≡ getD filters (6 + j) (pos 0)
+
+-- ---- what functions are given
+
+-- an accepted picture and its grid, the component's plane, a filter; room for the copy of a piece, for the filter's numbers, and for the output
+pub record ChromaWork (p : Picture) (g : Grid) (chroma : List ℕ) (filters : List ℤ) (copy : ℕ) (taps : List ℤ) (output : ℕ) : Type 0 where
+  pub grid : GridOf p g
+  pub sizes : pictureSizeValid p ≡ true
+  pub ctbSize : ctbSizeValid p ≡ true
+  pub depth : bitDepthValid p ≡ true
+  pub chromaLength : length chroma ≡ (p .width / subWidth p) * (p .height / subHeight p)
+  pub outputLength : output ≡ (p .width / subWidth p) * (p .height / subHeight p)
+  pub samples : (k : ℕ) → getD chroma k 0 < 4096
+  pub filterLength : 12 ≤ length filters
+  pub coefficients : (j : ℕ) → j < 6 → CoeffRange (getD filters j (pos 0))
+  pub clips : (j : ℕ) → j < 6 → ClipRange (getD filters (6 + j) (pos 0))
+  pub copyRoom : area ≤ copy
+  pub numbers : TapNumbers taps
+
+-- a piece, its copy, and its filter's numbers
+pub record RowsWork (p : Picture) (g : Grid) (columns rows : Piece) (copy : List ℕ) (taps : List ℤ) (output : ℕ) : Type 0 where
+  pub grid : GridOf p g
+  pub sizes : pictureSizeValid p ≡ true
+  pub ctbSize : ctbSizeValid p ≡ true
+  pub depth : bitDepthValid p ≡ true
+  pub across : PieceIn (p .width / subWidth p) columns
+  pub down : PieceIn (p .height / subHeight p) rows
+  pub copyRoom : copyLength columns rows ≤ length copy
+  pub samples : (k : ℕ) → k < copyLength columns rows → getD copy k 0 < 4096
+  pub numbers : TapNumbers taps
+  pub outputLength : output ≡ (p .width / subWidth p) * (p .height / subHeight p)
+
+-- ---- samples
+
+-- Table 46 at row y of a plane, where `ratio` rows of luma are one of the plane's
+abbrev pub rowsAt : ℕ → ℕ → ℕ → ℕ → ChromaRows
+rowsAt height ctb ratio y =
+    let a = axisOf height ctb [] true ratio in
+    chromaRows (lineRule a (lumaPosition a y)) (bottomDistance a y)
+
+-- the filtered sample at index k of the plane, from the copy of the piece in which it lies
+unfoldable pub copyChromaAt : Picture → ℕ → List ℕ → List ℤ → Piece → Piece → ℕ → ℕ
+copyChromaAt p ctb copy taps columns rows k =
+    let x = k % (p .width / subWidth p) in
+    let y = k / (p .width / subWidth p) in
+    pieceSample copy (pitch columns) (rowsAt (p .height) ctb (subHeight p) y) taps (p .«bit_depth») (y - rows .start) (x - columns .start)

@@ -1,0 +1,162 @@
+// A piece of a CTB filtered: its copy, its filter's numbers spread over the columns, and then row by row.
+ghost use mathlib.Core.Path.{_≡_};
+ghost use Prim.Native.Nat.{ℕ, _+_, _*_, _/_, _≤_, _<_};
+ghost use lib.ListN.{length, getD};
+ghost use lib.IntN.{pos};
+ghost use Rattle.alf_spec.specs.Lists.{painted};
+ghost use Rattle.alf_spec.specs.Input.{Input};
+ghost use Rattle.alf_spec.specs.Geometry.{subWidth, subHeight, chromaPlane};
+ghost use Rattle.alf_spec.specs.Boundary.{columnDisabled, rowDisabled};
+ghost use Rattle.alf_spec.specs.Chroma.{chromaSample};
+ghost use Rattle.alf_spec.specs.Process.{atIndex};
+ghost use Rattle.alf_spec.specs.declared.Ctb.{Ctb};
+ghost use Rattle.alf_math.specs.Integers.{CoeffRange, ClipRange};
+ghost use Rattle.alf_pieces.specs.Regions.{between, inRect};
+ghost use Rattle.alf_pieces.specs.Pieces.{PieceIn, PieceOf, CtbOf};
+ghost use Rattle.alf_taps.specs.Spread.{TapNumbers};
+ghost use Rattle.alf_chroma.specs.Samples.{pieceSampleFrom};
+ghost use Rattle.alf_chroma.specs.Pieces.{Spread, RowsWork, ChromaWork, ChromaFilter, copyChromaAt};
+use crate::kernel::chroma_row;
+use crate::rows::rows_at;
+use alf_math::grid::sub_height;
+use alf_math::grid::sub_width;
+use alf_pieces::copies::copy_piece;
+use alf_pieces::copies::extent;
+use alf_pieces::pieces::Piece;
+use alf_spec::ChromaRows;
+use alf_spec::Grid;
+use alf_spec::Picture;
+use alf_spec::Sides;
+use alf_taps::CLIPS;
+use alf_taps::COLUMNS;
+use alf_taps::fill;
+
+// The taps of a chroma filter: so many coefficients, and then as many clips.
+const TAPS: usize = 6;
+
+// The filter's numbers in the first n columns of each tap.
+fn spread(filters: &[i16], n: usize, taps: &mut [i16])
+    requires { ⌜ (12 ≤ length (now filters)) × ((j : ℕ) → j < 6 → CoeffRange (getD (now filters) j (pos 0)))
+        × ((j : ℕ) → j < 6 → ClipRange (getD (now filters) (6 + j) (pos 0))) × (n ≤ 128) × (TapNumbers (now taps)) ⌝ }
+    ensures { λ _. ⌜ (Spread (now (filters .entry)) 6 n (now (taps .exit))) × (TapNumbers (now (taps .exit))) ⌝ }
+{
+    let mut j: usize = 0;
+    while j < TAPS {
+        fill(taps, COLUMNS * j, n, filters[j]);
+        fill(taps, CLIPS + COLUMNS * j, n, filters[TAPS + j]);
+        j += 1;
+    }
+}
+
+// Row t of a piece of n columns.
+fn filter_row(
+    copy: &[u16],
+    n: usize,
+    t: usize,
+    offsets: ChromaRows,
+    taps: &[i16],
+    depth: u32,
+    output: &mut [u16],
+    from: usize,
+)
+    requires { ⌜ (n ≤ 128) × (t < 128) × (offsets .y1 ≤ offsets .y2) × (offsets .y2 ≤ 2) × (offsets .shift < 32) × (depth ≤ 12)
+        × (TapNumbers (now taps)) × (from + n ≤ length (now output))
+        × ((t + 6) * (n + 6) ≤ length (now copy)) × ((k : ℕ) → k < (t + 6) * (n + 6) → getD (now copy) k 0 < 4096) ⌝ }
+    ensures { λ _. ⌜ now (output .exit) ≡ painted (now (output .entry)) (between from n)
+        (pieceSampleFrom (now (copy .entry)) (n + 6) offsets (now (taps .entry)) depth t from) ⌝ }
+{
+    let pitch = n + 6;
+    let row = t + 3;
+    let y1 = offsets.y1 as usize;
+    let y2 = offsets.y2 as usize;
+    chroma_row(
+        copy,
+        n,
+        (row - y2) * pitch,
+        (row - y1) * pitch,
+        row * pitch,
+        (row + y1) * pitch,
+        (row + y2) * pitch,
+        taps,
+        offsets.shift,
+        depth,
+        output,
+        from,
+    );
+}
+
+// The place in a plane of so many columns of the sample at column x and row y.
+fn place(width: u32, y: u32, x: u32) -> usize
+    requires { ⌜ (width ≤ 4096) × (y ≤ 4096) ⌝ }
+    ensures { λ r. ⌜ r ≡ y * width + x ⌝ }
+{
+    y as usize * width as usize + x as usize
+}
+
+// The rows of a piece.
+fn filter_rows(
+    picture: Picture,
+    grid: Grid,
+    columns: Piece,
+    rows: Piece,
+    copy: &[u16],
+    taps: &[i16],
+    output: &mut [u16],
+)
+    requires { ⌜ RowsWork picture grid columns rows (now copy) (now taps) (length (now output)) ⌝ }
+    ensures { λ _. ⌜ now (output .exit) ≡ painted (now (output .entry))
+        (inRect (picture .width / subWidth picture) (columns .start) (columns .end) (rows .start) (rows .end))
+        (copyChromaAt picture (grid .ctb) (now (copy .entry)) (now (taps .entry)) columns rows) ⌝ }
+{
+    let n = extent(columns);
+    let depth = picture.bit_depth as u32;
+    let width = picture.width / sub_width(picture);
+    let ratio = sub_height(picture);
+    let mut y = rows.start;
+    while y < rows.end {
+        let offsets = rows_at(picture.height, grid.ctb, ratio, y);
+        let from = place(width, y, columns.start);
+        filter_row(
+            copy,
+            n,
+            (y - rows.start) as usize,
+            offsets,
+            taps,
+            depth,
+            output,
+            from,
+        );
+        y += 1;
+    }
+}
+
+// The filtered samples of a piece: those of every input in which a CTB has these sides and this filter, and the piece is one of its pieces. The
+// pieces are in the samples of the component's plane; a filter is 6 coefficients and then 6 clips.
+pub fn filter_piece(
+    picture: Picture,
+    grid: Grid,
+    sides: Sides,
+    columns: Piece,
+    rows: Piece,
+    chroma: &[u16],
+    filters: &[i16],
+    copy: &mut [u16],
+    taps: &mut [i16],
+    output: &mut [u16],
+)
+    requires { ⌜ (ChromaWork picture grid (now chroma) (now filters) (length (now copy)) (now taps) (length (now output)))
+        × (PieceIn (picture .width / subWidth picture) columns) × (PieceIn (picture .height / subHeight picture) rows) ⌝ }
+    ensures { λ _. ⌜ (((i : Input) (c : Ctb) (component : ℕ) → CtbOf (i .layout) picture c sides → i .chroma ≡ now (chroma .entry)
+        → ChromaFilter i c component (now (filters .entry))
+        → PieceOf (chromaPlane (i .layout) .columns) (columnDisabled (i .layout) c) (c .column) columns
+        → PieceOf (chromaPlane (i .layout) .rows) (rowDisabled (i .layout) c) (c .row) rows
+        → now (output .exit) ≡ painted (now (output .entry))
+        (inRect (picture .width / subWidth picture) (columns .start) (columns .end) (rows .start) (rows .end))
+        (atIndex (chromaPlane (i .layout)) (chromaSample i component)))
+        × (TapNumbers (now (taps .exit)))) ⌝ }
+{
+    let width = picture.width / sub_width(picture);
+    copy_piece(chroma, width as usize, columns, rows, sides, copy);
+    spread(filters, extent(columns), taps);
+    filter_rows(picture, grid, columns, rows, copy, taps, output);
+}
