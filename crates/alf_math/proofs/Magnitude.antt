@@ -113,6 +113,10 @@ between-signs (negsuc n) (negsuc m) p q = absurd (true≢false p)
 pub abs-clip : (c v : ℤ) → natAbs (clip3 (negℤ c) c v) ≤ natAbs c
 abs-clip c v = clip-cases (λ z. natAbs z ≤ natAbs c) (negℤ c) c v (omega (arith, abs-neg c)) (le-refl (natAbs c)) (between-signs c v)
 
+-- between any two ends
+pub abs-clip-within : (b : ℕ) (lo hi v : ℤ) → natAbs lo ≤ b → natAbs hi ≤ b → natAbs v ≤ b → natAbs (clip3 lo hi v) ≤ b
+abs-clip-within b lo hi v low high inside = clip-cases (λ z. natAbs z ≤ b) lo hi v low high (λ p q. inside)
+
 between-levels : (m : ℕ) (v : ℤ) → ltZ v (pos 0) ≡ false → ltZ (pos m) v ≡ false → T (nonNeg v) × (natAbs v ≤ m)
 between-levels m (pos n) p q = (tt, ltb-false m n q)
 between-levels m (negsuc n) p q = absurd (true≢false p)

@@ -63,21 +63,21 @@ module _ (a : Axis) (ok : Regular a) (q : ℕ) where
         let upto = lt-own (a .ratio) (ctbLimit a q) x high in
         ctb-of a q (lumaPosition a x) (omega (arith, whole (q * a .ctb) side8)) (omega arith)
 
--- ---- in a plane with this ratio to luma
+-- ---- in a plane with these ratios to luma
 
-module _ (l : Layout) (ok : Accepted l) (ratio : ℕ) (whole : Whole ratio) where
+module _ (l : Layout) (ok : Accepted l) (columnRatio rowRatio : ℕ) (wholeColumns : Whole columnRatio) (wholeRows : Whole rowRatio) where
   abbrev plane : Plane
-  plane = planeOf l ratio ratio
+  plane = planeOf l columnRatio rowRatio
 
   -- the sample at index i
   module _ (i : ℕ) (h : i < planeLength plane) where
     column-in : lumaPosition (plane .columns) (columnOf plane i) / plane .columns .ctb < ctbColumns l
     unfolding planeOf
-    column-in = ctb-below (plane .columns) (regular-columns l ok ratio ratio) _ (lt-own ratio _ _ (column-below plane i h))
+    column-in = ctb-below (plane .columns) (regular-columns l ok columnRatio rowRatio) _ (lt-own columnRatio _ _ (column-below plane i h))
 
     row-in : lumaPosition (plane .rows) (rowOf plane i) / plane .rows .ctb < ctbRows l
     unfolding planeOf
-    row-in = ctb-below (plane .rows) (regular-rows l ok ratio ratio) _ (lt-own ratio _ _ (row-below plane i h))
+    row-in = ctb-below (plane .rows) (regular-rows l ok columnRatio rowRatio) _ (lt-own rowRatio _ _ (row-below plane i h))
 
     -- it lies in one of the picture's CTBs
     every-ctb : beforeCtb l plane (ctbTotal l) i ≡ true
@@ -92,8 +92,8 @@ module _ (l : Layout) (ok : Accepted l) (ratio : ℕ) (whole : Whole ratio) wher
       abbrev rectangle : ℕ → Bool
       rectangle =
           inRect (samples (plane .columns))
-          (k % ctbColumns l * plane .columns .ctb / ratio) (ctbLimit (plane .columns) (k % ctbColumns l) / ratio)
-          (k / ctbColumns l * plane .rows .ctb / ratio) (ctbLimit (plane .rows) (k / ctbColumns l) / ratio)
+          (k % ctbColumns l * plane .columns .ctb / columnRatio) (ctbLimit (plane .columns) (k % ctbColumns l) / columnRatio)
+          (k / ctbColumns l * plane .rows .ctb / rowRatio) (ctbLimit (plane .rows) (k / ctbColumns l) / rowRatio)
 
       to-rectangle : address l own ≡ k → rectangle i ≡ true
       unfolding planeOf
@@ -102,8 +102,8 @@ module _ (l : Layout) (ok : Accepted l) (ratio : ℕ) (whole : Whole ratio) wher
           sym (place-column (ctbColumns l) (ctbRows l) (own .column) (own .row) column-in row-in) ∙ ap (λ (n : ℕ). n % ctbColumns l) e in
           let row : own .row ≡ k / ctbColumns l =
           sym (place-row (ctbColumns l) (ctbRows l) (own .column) (own .row) column-in row-in) ∙ ap (λ (n : ℕ). n / ctbColumns l) e in
-          let across = ctb-range (plane .columns) (regular-columns l ok ratio ratio) _ whole _ (column-below plane i h) column in
-          let down = ctb-range (plane .rows) (regular-rows l ok ratio ratio) _ whole _ (row-below plane i h) row in
+          let across = ctb-range (plane .columns) (regular-columns l ok columnRatio rowRatio) _ wholeColumns _ (column-below plane i h) column in
+          let down = ctb-range (plane .rows) (regular-rows l ok columnRatio rowRatio) _ wholeRows _ (row-below plane i h) row in
           in-rect _ _ _ _ _ i (across .0, across .1, down .0, down .1)
 
       from-rectangle : rectangle i ≡ true → address l own ≡ k
@@ -111,8 +111,8 @@ module _ (l : Layout) (ok : Accepted l) (ratio : ℕ) (whole : Whole ratio) wher
       from-rectangle t =
           let f = rect-facts _ _ _ _ _ i t in
           let column : own .column ≡ k % ctbColumns l =
-          range-ctb (plane .columns) (regular-columns l ok ratio ratio) _ whole _ (f .0) (f .1) in
-          let row : own .row ≡ k / ctbColumns l = range-ctb (plane .rows) (regular-rows l ok ratio ratio) _ whole _ (f .2) (f .3) in
+          range-ctb (plane .columns) (regular-columns l ok columnRatio rowRatio) _ wholeColumns _ (f .0) (f .1) in
+          let row : own .row ≡ k / ctbColumns l = range-ctb (plane .rows) (regular-rows l ok columnRatio rowRatio) _ wholeRows _ (f .2) (f .3) in
           rw (column, row) (div-add-mod' k (ctbColumns l))
 
       ctb-rectangle : ofCtb l plane k i ≡ rectangle i
@@ -121,18 +121,18 @@ module _ (l : Layout) (ok : Accepted l) (ratio : ℕ) (whole : Whole ratio) wher
 
       -- by the numbers of the picture's grid, as code has it
       grid-rectangle : (g : Grid) → GridOf (l .picture) g
-          → ofCtb l plane k i ≡ inRect (l .picture .width / ratio)
-          (k % g .columns * g .ctb / ratio) (min (k % g .columns * g .ctb + g .ctb) (l .picture .width) / ratio)
-          (k / g .columns * g .ctb / ratio) (min (k / g .columns * g .ctb + g .ctb) (l .picture .height) / ratio) i
+          → ofCtb l plane k i ≡ inRect (l .picture .width / columnRatio)
+          (k % g .columns * g .ctb / columnRatio) (min (k % g .columns * g .ctb + g .ctb) (l .picture .width) / columnRatio)
+          (k / g .columns * g .ctb / rowRatio) (min (k / g .columns * g .ctb + g .ctb) (l .picture .height) / rowRatio) i
       unfolding planeOf
       grid-rectangle g grid = rw (grid-columns l g grid, grid .ctb) ctb-rectangle
 
   -- a list of the plane's length
   module _ (xs : List ℕ) (size : length xs ≡ planeLength plane) {g : Grid} (grid : GridOf (l .picture) g) (v : ℕ → ℕ) where
     -- the rectangle that code writes is the CTB
-    pub ctb-painted : (k : ℕ) {ys : List ℕ} → ys ≡ painted xs (inRect (l .picture .width / ratio)
-        (k % g .columns * g .ctb / ratio) (min (k % g .columns * g .ctb + g .ctb) (l .picture .width) / ratio)
-        (k / g .columns * g .ctb / ratio) (min (k / g .columns * g .ctb + g .ctb) (l .picture .height) / ratio)) v → ys ≡ painted xs (ofCtb l plane k) v
+    pub ctb-painted : (k : ℕ) {ys : List ℕ} → ys ≡ painted xs (inRect (l .picture .width / columnRatio)
+        (k % g .columns * g .ctb / columnRatio) (min (k % g .columns * g .ctb + g .ctb) (l .picture .width) / columnRatio)
+        (k / g .columns * g .ctb / rowRatio) (min (k / g .columns * g .ctb + g .ctb) (l .picture .height) / rowRatio)) v → ys ≡ painted xs (ofCtb l plane k) v
     ctb-painted k e = paint-is (paint-same (paint-of e) (λ i h. grid-rectangle i (omega (arith, size)) k g grid) (λ i h t. refl))
 
     -- all CTBs are written

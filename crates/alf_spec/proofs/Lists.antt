@@ -9,8 +9,9 @@ use native.Mathlib.Nat.{not-suc-le-zero, le-of-suc-le-suc, zero-lt-suc}
 use native.Mathlib.Decide.{ℕ-discrete}
 use native.Mathlib.Omega.{arith}
 use lib.ListN.{length, getD}
+use lib.IntN.{ℤ, _+ℤ_}
 use borrow.Author.Tests.{eq-eqb, ne-eqb}
-use Rattle.alf_spec.specs.Lists.{elem, sumBelow, tabulate, painted}
+use Rattle.alf_spec.specs.Lists.{elem, sumBelow, sumBelowℤ, tabulate, painted}
 use Rattle.alf_spec.proofs.Tests.{never}
 
 pub tabulate-at : (n : ℕ) (f : ℕ → ℕ) (k : ℕ) → k < n → getD (tabulate n f) k 0 ≡ f k
@@ -28,6 +29,11 @@ pub sum-same : (n : ℕ) (f g : ℕ → ℕ) → ((k : ℕ) → k < n → f k �
 unfolding sumBelow
 sum-same zero f g e = refl
 sum-same (suc n) f g e = ap₂ (λ (a b : ℕ). a + b) (sum-same n f g (λ k h. e k (omega arith))) (e n (omega arith))
+
+pub sum-sameℤ : (n : ℕ) (f g : ℕ → ℤ) → ((k : ℕ) → k < n → f k ≡ g k) → sumBelowℤ n f ≡ sumBelowℤ n g
+unfolding sumBelowℤ
+sum-sameℤ zero f g e = refl
+sum-sameℤ (suc n) f g e = ap₂ (λ (a b : ℤ). a +ℤ b) (sum-sameℤ n f g (λ k h. e k (omega arith))) (e n (omega arith))
 
 pub painted-at : (xs : List ℕ) (test : ℕ → Bool) (value : ℕ → ℕ) (k : ℕ) → k < length xs
     → getD (painted xs test value) k 0 ≡ cond (test k) (value k) (getD xs k 0)

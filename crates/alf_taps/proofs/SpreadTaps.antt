@@ -1,13 +1,13 @@
 -- The taps of a sample by numbers that are spread over the columns: how large their sum can be, and that equal numbers give equal sums. Assumes
 -- nothing.
-use mathlib.Core.Path.{_≡_, refl, ap₂}
+use mathlib.Core.Path.{_≡_}
 use mathlib.Core.List.{List}
-use Prim.Native.Nat.{ℕ, zero, suc, _*_, _^_, _≤_, _<_}
+use Prim.Native.Nat.{ℕ, _*_, _^_, _≤_, _<_}
 use native.Mathlib.Omega.{arith}
-use lib.IntN.{ℤ, natAbs, _+ℤ_}
+use lib.IntN.{ℤ, natAbs}
 use lib.ListN.{getD}
-use Rattle.alf_spec.specs.Lists.{sumBelowℤ}
 use Rattle.alf_spec.specs.Arithmetic.{tap, tapSum}
+use Rattle.alf_spec.proofs.Lists.{sum-sameℤ}
 use Rattle.alf_math.proofs.Magnitude.{abs-tap-sum}
 use Rattle.alf_taps.specs.Spread.{spreadCoeff, spreadClip, TapNumbers}
 
@@ -17,14 +17,9 @@ spread-sum {taps} numbers x column n few curr plus minus =
     abs-tap-sum n curr (spreadCoeff taps x) (spreadClip taps x)
     (λ j h. numbers .coefficients _ (omega arith)) (λ j h. numbers .clips _ (omega arith) .small) plus minus
 
-sum-same : (n : ℕ) (f g : ℕ → ℤ) → ((j : ℕ) → j < n → f j ≡ g j) → sumBelowℤ n f ≡ sumBelowℤ n g
-unfolding sumBelowℤ
-sum-same zero f g e = refl
-sum-same (suc n) f g e = ap₂ (λ (a b : ℤ). a +ℤ b) (sum-same n f g (λ j h. e j (omega arith))) (e n (omega arith))
-
 -- the same numbers of the first n taps
 pub taps-same : (n curr : ℕ) {f g c d : ℕ → ℤ} (plus minus : List ℕ) → ((j : ℕ) → j < n → f j ≡ g j) → ((j : ℕ) → j < n → c j ≡ d j)
     → tapSum n curr f c plus minus ≡ tapSum n curr g d plus minus
 unfolding tapSum
 taps-same n curr plus minus coefficients clips =
-    sum-same n _ _ (λ j h t. tap curr (coefficients j h t) (clips j h t) (getD plus j 0) (getD minus j 0))
+    sum-sameℤ n _ _ (λ j h t. tap curr (coefficients j h t) (clips j h t) (getD plus j 0) (getD minus j 0))

@@ -1,0 +1,4 @@
+-- Laws that the proofs of this crate cite.
+pub mod TapSums
+pub mod PieceRows
+pub mod PieceSamples

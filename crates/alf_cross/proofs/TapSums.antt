@@ -1,0 +1,79 @@
+-- A sum of taps, a tap at a time, and what its reads in the copy need. Assumes nothing.
+use mathlib.Core.Path.{_≡_, refl, _∙_}
+use mathlib.Core.List.{List, [], _∷_, map}
+use Prim.Native.Nat.{ℕ, zero, suc, _+_, _*_, _^_, _≤_, _<_}
+use native.Mathlib.Omega.{arith}
+use lib.IntN.{ℤ, pos, natAbs, _+ℤ_, _-ℤ_, _*ℤ_}
+use lib.ListN.{length, getD}
+use lib.Signed.{mag}
+use mir.Facts.{toZ-ofZ}
+use mir.Syntax.{w16, w32}
+use mir.Val.{SFits, hbits, toZ, ofZ}
+use Rattle.alf_spec.specs.Lists.{sumBelowℤ}
+use Rattle.alf_spec.proofs.Lists.{Each}
+use Rattle.alf_math.proofs.Magnitude.{fits-abs, returned}
+use Rattle.alf_cross.specs.Taps.{SmallTaps, Reads, seven}
+
+-- z is the sum of the first n taps
+pub record Summed (tap : ℕ → ℤ) (n : ℕ) (z : ℤ) : Type 0 where
+  pub is : z ≡ sumBelowℤ n tap
+  pub small : natAbs z ≤ n * 2 ^ 20
+
+pub summed-none : {tap : ℕ → ℤ} → Summed tap 0 (pos 0)
+unfolding sumBelowℤ
+summed-none = record { is = refl; small = omega arith }
+
+-- one tap more, as code has it: r is what the call returned
+pub summed-more : {tap : ℕ → ℤ} {n : ℕ} {z r f : ℤ} (sample middle : ℕ) → Summed tap n z → SFits w16 f
+    → (r ≡ z +ℤ toZ w16 (ofZ w16 f) *ℤ (pos sample -ℤ pos middle)) × (natAbs r ≤ natAbs z + 2 ^ 20)
+    → f *ℤ (pos sample -ℤ pos middle) ≡ tap n → mag r < 2 ^ hbits w32 → Summed tap (suc n) (toZ w32 (ofZ w32 r))
+unfolding sumBelowℤ
+summed-more {tap} {n} {z} {r} {f} sample middle s fits h e ok = record {
+  is = returned w32 ok (h .0 ∙ rw (toZ-ofZ fits, e, s .is));
+  small = rw (returned w32 {z = r} ok refl) (omega (arith, h .1, s .small));
+}
+
+-- ---- the coefficients, read from their bits
+
+tap-fits : {f : List ℤ} → SmallTaps f → (j : ℕ) → SFits w16 (getD f j (pos 0))
+tap-fits h j = fits-abs (omega (arith, h .each j))
+
+pub taps-back : {f0 f1 f2 f3 f4 f5 f6 : ℤ} → SmallTaps (f0 ∷ f1 ∷ f2 ∷ f3 ∷ f4 ∷ f5 ∷ f6 ∷ [])
+    → map (λ f. toZ w16 (ofZ w16 f)) (f0 ∷ f1 ∷ f2 ∷ f3 ∷ f4 ∷ f5 ∷ f6 ∷ []) ≡ f0 ∷ f1 ∷ f2 ∷ f3 ∷ f4 ∷ f5 ∷ f6 ∷ []
+taps-back h = λ t.
+    toZ-ofZ (tap-fits h 0) t ∷ toZ-ofZ (tap-fits h 1) t ∷ toZ-ofZ (tap-fits h 2) t ∷ toZ-ofZ (tap-fits h 3) t ∷ toZ-ofZ (tap-fits h 4) t
+    ∷ toZ-ofZ (tap-fits h 5) t ∷ toZ-ofZ (tap-fits h 6) t ∷ []
+
+each-small : (f : List ℤ) → Each (λ c. natAbs c ≤ 128) f → (j : ℕ) → natAbs (getD f j (pos 0)) ≤ 128
+each-small [] h j = omega arith
+each-small (c ∷ f) h zero = h .0
+each-small (c ∷ f) h (suc j) = each-small f (h .1) j
+
+pub seven-small : (f : List ℤ) → ((j : ℕ) → natAbs (getD f j (pos 0)) ≤ 128) → SmallTaps (seven f)
+seven-small f h = record { each = each-small (seven f) (h 0, (h 1, (h 2, (h 3, (h 4, (h 5, (h 6, tt))))))) }
+
+-- ---- places in the copy
+
+-- fewer columns are read
+pub reads-less : {copy : List ℕ} {above here below far end less : ℕ} → Reads copy above here below far end → less ≤ end
+    → Reads copy above here below far less
+reads-less r h = record {
+  aboveFirst = r .aboveFirst;
+  hereFirst = r .hereFirst;
+  belowFirst = r .belowFirst;
+  room = omega (arith, r .room);
+  small = λ k l. r .small k (omega arith);
+}
+
+-- what a call asks: its row begins no later than the last, and its column is one of three
+pub tap-ready : {copy : List ℕ} {above here below far : ℕ} {tap : ℕ → ℤ} {n : ℕ} {z f : ℤ} (row at i : ℕ) → Reads copy above here below far (at + 2)
+    → Summed tap n z → n ≤ 6 → SFits w16 f → natAbs f ≤ 128 → row ≤ far → i ≤ 2
+    → (natAbs z ≤ 2 ^ 30) × (getD copy (here + at + 1) 0 < 4096) × (row + at + i < length copy) × (getD copy (row + at + i) 0 < 4096)
+    × (natAbs (toZ w16 (ofZ w16 f)) ≤ 128)
+tap-ready {here = here} row at i r sum few fits coefficient first column = (
+  omega (arith, sum .small),
+  r .small (here + at + 1) (omega (arith, r .hereFirst)),
+  omega (arith, r .room),
+  r .small (row + at + i) (omega arith),
+  rw (toZ-ofZ fits) coefficient,
+)

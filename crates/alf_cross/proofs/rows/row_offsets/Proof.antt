@@ -1,0 +1,22 @@
+-- `alf_cross::rows::row_offsets` meets its contract. Assumes nothing.
+use mathlib.Core.Path.{refl}
+use mathlib.Core.Bool.{true}
+use mathlib.Core.List.{[]}
+use native.Mathlib.Nat.{mod-lt}
+use native.Mathlib.Omega.{arith}
+use borrow.Author.Needs.{needs}
+use Rattle.alf_boundary.specs.Clips.{axisOf}
+use Rattle.alf_cross.proofs.rows.row_offsets.Statement.{statement}
+use Rattle.alf_cross.proofs.rows.row_offsets.Tie as tie
+
+pub row-offsets-spec : {M : Type 1} → statement M
+row-offsets-spec =
+    tie.close
+    (tie.spec
+    (λ c κs. search needs)
+    (λ c. search needs)
+    (λ c. let a = c .before .args in omega (arith, mod-lt (a .y) {m = a .ctb} (omega arith)))
+    (λ c κs. search needs)
+    (λ c.
+    let a = c .before .before .args in
+    rw (c .before .line-rule .ensures (axisOf (a .height) (a .ctb) [] true 1) refl refl) at (c .cross-rows .ensures)))

@@ -1,0 +1,70 @@
+-- What the functions of a piece are given, and what a piece's copy says of its chroma samples. Assumes nothing.
+use mathlib.Core.Path.{_≡_}
+use mathlib.Core.Bool.{true}
+use mathlib.Core.List.{List, [], map}
+use Prim.Native.Nat.{ℕ, _+_, _-_, _*_, _/_, _%_, _≤_, _<_}
+use lib.IntN.{ℤ, pos, natAbs}
+use lib.ListN.{length, getD}
+use Rattle.alf_spec.specs.declared.Ctb.{Ctb}
+use Rattle.alf_spec.specs.declared.CrossRows.{CrossRows}
+use Rattle.alf_spec.specs.declared.Grid.{Grid}
+use Rattle.alf_spec.specs.declared.Picture.{Picture}
+use Rattle.alf_spec.specs.Input.{Input}
+use Rattle.alf_spec.specs.Geometry.{subWidth, subHeight, lineRule}
+use Rattle.alf_spec.specs.Parameters.{crossAps, crossIndex, crossCoeff}
+use Rattle.alf_spec.specs.CrossComponent.{crossRows, crossTaps, crossSum, corrected}
+use Rattle.alf_spec.specs.Faults.{pictureSizeValid, ctbSizeValid, bitDepthValid}
+use Rattle.alf_math.specs.Grids.{GridOf}
+use Rattle.alf_boundary.specs.Clips.{axisOf}
+use Rattle.alf_pieces.specs.declared.pieces.Piece.{Piece}
+use Rattle.alf_pieces.specs.Copies.{pitch, area}
+
+-- an accepted picture and its grid, a chroma plane, the coefficients, and room for the plane that is written
+pub record ChromaWork (p : Picture) (g : Grid) (chroma : List ℕ) (filters : List ℤ) (output : ℕ) : Type 0 where
+  pub grid : GridOf p g
+  pub sizes : pictureSizeValid p ≡ true
+  pub ctbSize : ctbSizeValid p ≡ true
+  pub depth : bitDepthValid p ≡ true
+  pub chromaLength : length chroma ≡ p .width / subWidth p * (p .height / subHeight p)
+  pub outputLength : output ≡ p .width / subWidth p * (p .height / subHeight p)
+  pub chromaSamples : (k : ℕ) → getD chroma k 0 < 4096
+  pub filterLength : 7 ≤ length filters
+  pub coefficients : (j : ℕ) → natAbs (getD filters j (pos 0)) ≤ 128
+
+-- and the picture's luma samples, and room for the copy of a piece
+pub record CrossWork (p : Picture) (g : Grid) (luma chroma : List ℕ) (filters : List ℤ) (copy output : ℕ) : Type 0 where
+  pub work : ChromaWork p g chroma filters output
+  pub lumaLength : length luma ≡ p .width * p .height
+  pub lumaSamples : (k : ℕ) → getD luma k 0 < 4096
+  pub copyRoom : area ≤ copy
+
+-- the first n entries of the copy are samples
+pub record SmallCopy (copy : List ℕ) (n : ℕ) : Type 0 where
+  pub room : n ≤ length copy
+  pub small : (k : ℕ) → k < n → getD copy k 0 < 4096
+
+-- (1532): the first seven are the coefficients of the CTB c
+pub record CrossFilter (i : Input) (c : Ctb) (component : ℕ) (filters : List ℤ) : Type 0 where
+  pub coefficients : (j : ℕ) → j < 7
+      → getD filters j (pos 0) ≡ crossCoeff i (crossAps i c component) component (crossIndex i c component - 1) j
+
+-- Table 47 at luma row y
+abbrev pub rowOffsets : ℕ → ℕ → ℕ → CrossRows
+rowOffsets height ctb y = crossRows (lineRule (axisOf height ctb [] true 1) y) (ctb - y % ctb)
+
+-- the sample at column i and row j of the copy
+abbrev pub copyRead : List ℕ → Piece → ℕ × ℕ → ℕ
+copyRead copy columns place = getD copy (place .1 * pitch columns + place .0) 0
+
+-- (1533) of the sample at column i and row j of the copy
+unfoldable pub pieceSum : List ℕ → Piece → List ℤ → CrossRows → ℕ → ℕ → ℤ
+pieceSum copy columns filters r i j =
+    crossSum (copyRead copy columns (i, j)) (λ n. getD filters n (pos 0)) (map (copyRead copy columns) (crossTaps i j r))
+
+-- the corrected sample at index k of the chroma plane, from the copy of the piece in which its luma position (x, y) lies; the margin has 3 samples
+unfoldable pub copyCrossAt : Picture → ℕ → List ℤ → List ℕ → List ℕ → Piece → Piece → ℕ → ℕ
+copyCrossAt p ctb filters copy chroma columns rows k =
+    let x = k % (p .width / subWidth p) * subWidth p in
+    let y = k / (p .width / subWidth p) * subHeight p in
+    corrected (p .«bit_depth») (getD chroma k 0)
+    (pieceSum copy columns filters (rowOffsets (p .height) ctb y) (x - columns .start + 3) (y - rows .start + 3))

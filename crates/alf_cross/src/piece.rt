@@ -1,0 +1,135 @@
+// The cross-component filter of a piece of a CTB.
+ghost use mathlib.Core.Path.{_≡_};
+ghost use Prim.Native.Nat.{ℕ, _+_, _-_, _*_, _/_, _≤_, _<_};
+ghost use lib.ListN.{length};
+ghost use Rattle.alf_spec.specs.Lists.{painted};
+ghost use Rattle.alf_spec.specs.Input.{Input};
+ghost use Rattle.alf_spec.specs.Geometry.{subWidth, subHeight, lumaPlane, chromaPlane};
+ghost use Rattle.alf_spec.specs.Boundary.{columnDisabled, rowDisabled};
+ghost use Rattle.alf_spec.specs.CrossComponent.{crossSample};
+ghost use Rattle.alf_spec.specs.Process.{atIndex};
+ghost use Rattle.alf_spec.specs.declared.Ctb.{Ctb};
+ghost use Rattle.alf_pieces.specs.Regions.{between, inRect};
+ghost use Rattle.alf_pieces.specs.Pieces.{PieceOf, BlockPiece, CtbOf};
+ghost use Rattle.alf_pieces.specs.Copies.{extent as extentOf, copyLength};
+ghost use Rattle.alf_cross.specs.Work.{ChromaWork, CrossWork, SmallCopy, CrossFilter, copyCrossAt};
+use crate::rows::offset_row;
+use crate::rows::row_offsets;
+use alf_math::grid::sub_height;
+use alf_math::grid::sub_width;
+use alf_pieces::copies::copy_piece;
+use alf_pieces::copies::extent;
+use alf_pieces::pieces::Piece;
+use alf_spec::Grid;
+use alf_spec::Picture;
+use alf_spec::Sides;
+
+// The index, in row v of the chroma plane, of the sample at luma column x.
+fn chroma_place(width: u32, step: u32, v: u32, x: u32) -> usize
+    requires { ⌜ (width ≤ 4096) × (0 < step) × (v ≤ 4096) × (x ≤ 4096) ⌝ }
+    ensures { λ r. ⌜ r ≡ v * (width / step) + x / step ⌝ }
+{
+    v as usize * (width / step) as usize + (x / step) as usize
+}
+
+// The piece's samples in row v of the chroma plane, from the piece's copy.
+fn piece_row(
+    picture: Picture,
+    grid: Grid,
+    columns: Piece,
+    rows: Piece,
+    copy: &[u16],
+    chroma: &[u16],
+    filters: &[i16],
+    v: u32,
+    output: &mut [u16],
+)
+    requires { ⌜ (ChromaWork picture grid (now chroma) (now filters) (length (now output)))
+        × (BlockPiece (picture .width) columns) × (BlockPiece (picture .height) rows) × (SmallCopy (now copy) (copyLength columns rows))
+        × (rows .start / subHeight picture ≤ v) × (v < rows .end / subHeight picture) ⌝ }
+    ensures { λ _. ⌜ now (output .exit) ≡ painted (now (output .entry))
+        (between (v * (picture .width / subWidth picture) + columns .start / subWidth picture) (extentOf columns / subWidth picture))
+        (copyCrossAt picture (grid .ctb) (now (filters .entry)) (now (copy .entry)) (now (chroma .entry)) columns rows) ⌝ }
+{
+    let step = sub_width(picture);
+    let y = v * sub_height(picture);
+    let width = extent(columns);
+    offset_row(
+        copy,
+        width + 6,
+        (y - rows.start) as usize + 3,
+        row_offsets(picture.height, grid.ctb, y),
+        step as usize,
+        filters,
+        picture.bit_depth as u32,
+        chroma,
+        chroma_place(picture.width, step, v, columns.start),
+        width / step as usize,
+        output,
+    );
+}
+
+// The piece's samples, from its copy.
+fn piece_rows(
+    picture: Picture,
+    grid: Grid,
+    columns: Piece,
+    rows: Piece,
+    copy: &[u16],
+    chroma: &[u16],
+    filters: &[i16],
+    output: &mut [u16],
+)
+    requires { ⌜ (ChromaWork picture grid (now chroma) (now filters) (length (now output)))
+        × (BlockPiece (picture .width) columns) × (BlockPiece (picture .height) rows) × (SmallCopy (now copy) (copyLength columns rows)) ⌝ }
+    ensures { λ _. ⌜ now (output .exit) ≡ painted (now (output .entry))
+        (inRect (picture .width / subWidth picture) (columns .start / subWidth picture) (columns .end / subWidth picture)
+        (rows .start / subHeight picture) (rows .end / subHeight picture))
+        (copyCrossAt picture (grid .ctb) (now (filters .entry)) (now (copy .entry)) (now (chroma .entry)) columns rows) ⌝ }
+{
+    let ratio = sub_height(picture);
+    let end = rows.end / ratio;
+    let mut v = rows.start / ratio;
+    while v < end {
+        piece_row(
+            picture,
+            grid,
+            columns,
+            rows,
+            copy,
+            chroma,
+            filters,
+            v,
+            output,
+        );
+        v += 1;
+    }
+}
+
+// The piece's samples: those of every input in which a CTB has these sides, the piece is one of its pieces, and the coefficients are the CTB's.
+pub fn filter_piece(
+    picture: Picture,
+    grid: Grid,
+    sides: Sides,
+    columns: Piece,
+    rows: Piece,
+    luma: &[u16],
+    chroma: &[u16],
+    filters: &[i16],
+    copy: &mut [u16],
+    output: &mut [u16],
+)
+    requires { ⌜ (CrossWork picture grid (now luma) (now chroma) (now filters) (length (now copy)) (length (now output)))
+        × (BlockPiece (picture .width) columns) × (BlockPiece (picture .height) rows) ⌝ }
+    ensures { λ _. ⌜ ((i : Input) (c : Ctb) (component : ℕ) → CtbOf (i .layout) picture c sides
+        → i .luma ≡ now (luma .entry) → i .chroma ≡ now (chroma .entry) → CrossFilter i c component (now (filters .entry))
+        → PieceOf (lumaPlane (i .layout) .columns) (columnDisabled (i .layout) c) (c .column) columns
+        → PieceOf (lumaPlane (i .layout) .rows) (rowDisabled (i .layout) c) (c .row) rows
+        → now (output .exit) ≡ painted (now (output .entry))
+        (inRect (picture .width / subWidth picture) (columns .start / subWidth picture) (columns .end / subWidth picture)
+        (rows .start / subHeight picture) (rows .end / subHeight picture))
+        (atIndex (chromaPlane (i .layout)) (crossSample i component))) ⌝ }
+{
+    copy_piece(luma, picture.width as usize, columns, rows, sides, copy);
+    piece_rows(picture, grid, columns, rows, copy, chroma, filters, output);
+}

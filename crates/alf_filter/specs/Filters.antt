@@ -1,0 +1,59 @@
+-- The three filters under one name: what each is to `alf_spec`. Assumes nothing.
+use mathlib.Core.Bool.{Bool}
+use mathlib.Core.List.{List}
+use Prim.Native.Nat.{ℕ}
+use lib.IntN.{ℤ}
+use Rattle.alf_spec.specs.declared.Ctb.{Ctb}
+use Rattle.alf_spec.specs.declared.Picture.{Picture}
+use Rattle.alf_spec.specs.Input.{Operation, luma, chroma, crossComponent, Input}
+use Rattle.alf_spec.specs.Geometry.{subWidth, subHeight}
+use Rattle.alf_spec.specs.Luma.{lumaSample}
+use Rattle.alf_spec.specs.Chroma.{chromaSample}
+use Rattle.alf_spec.specs.CrossComponent.{crossSample}
+use Rattle.alf_spec.specs.Process.{lumaOn, chromaOn, crossOn}
+use Rattle.alf_luma.specs.Filters.{LumaFilters, FilterNumbers}
+use Rattle.alf_chroma.specs.Pieces.{ChromaFilter}
+use Rattle.alf_cross.specs.Work.{CrossFilter}
+use Rattle.alf_filter.specs.declared.Filter.{Filter}
+use Rattle.alf_filter.specs.declared.Filter.the-variants.{Luma, Chroma, CrossComponent}
+
+-- its operation
+abbrev pub operationOf : Filter → Operation
+operationOf Luma = luma
+operationOf (Chroma component) = chroma component
+operationOf (CrossComponent component) = crossComponent component
+
+-- the ratios to luma of the plane that it writes
+abbrev pub columnRatio : Filter → Picture → ℕ
+columnRatio Luma p = 1
+columnRatio (Chroma component) p = subWidth p
+columnRatio (CrossComponent component) p = subWidth p
+
+abbrev pub rowRatio : Filter → Picture → ℕ
+rowRatio Luma p = 1
+rowRatio (Chroma component) p = subHeight p
+rowRatio (CrossComponent component) p = subHeight p
+
+-- the plane that it filters
+abbrev pub filteredFrom : Filter → Input → List ℕ
+filteredFrom Luma i = i .luma
+filteredFrom (Chroma component) i = i .chroma
+filteredFrom (CrossComponent component) i = i .chroma
+
+-- a CTB's flag or index is on
+abbrev pub isOn : Filter → Input → Ctb → Bool
+isOn Luma i = lumaOn i
+isOn (Chroma component) i = chromaOn i component
+isOn (CrossComponent component) i = crossOn i component
+
+-- the filtered sample at a column and a row
+abbrev pub sampleOf : Filter → Input → ℕ → ℕ → ℕ
+sampleOf Luma i = lumaSample i
+sampleOf (Chroma component) i = chromaSample i component
+sampleOf (CrossComponent component) i = crossSample i component
+
+-- these are the numbers of a CTB's filter
+abbrev pub OwnFilter : Filter → Input → Ctb → List ℤ → Type 0
+OwnFilter Luma i c filters = LumaFilters i c filters
+OwnFilter (Chroma component) i c filters = ChromaFilter i c component filters
+OwnFilter (CrossComponent component) i c filters = CrossFilter i c component filters

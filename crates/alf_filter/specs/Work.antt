@@ -1,0 +1,56 @@
+-- What the functions from a piece to the plane are given. Assumes nothing.
+use mathlib.Core.Path.{_≡_}
+use mathlib.Core.Bool.{true}
+use mathlib.Core.List.{List}
+use Prim.Native.Nat.{ℕ, _+_, _*_, _/_, _≤_, _<_}
+use lib.IntN.{ℤ, pos}
+use lib.ListN.{length, getD}
+use Rattle.alf_spec.specs.declared.Grid.{Grid}
+use Rattle.alf_spec.specs.declared.Picture.{Picture}
+use Rattle.alf_spec.specs.Input.{given}
+use Rattle.alf_spec.specs.Geometry.{subWidth, subHeight}
+use Rattle.alf_spec.specs.Faults.{pictureSizeValid, ctbSizeValid, bitDepthValid}
+use Rattle.alf_math.specs.Grids.{GridOf}
+use Rattle.alf_math.specs.Integers.{CoeffRange, ClipRange}
+use Rattle.alf_pieces.specs.Copies.{area}
+use Rattle.alf_taps.specs.Spread.{TapNumbers}
+use Rattle.alf_luma.specs.Filters.{FilterNumbers, Places}
+use Rattle.alf_filter.specs.declared.Filter.{Filter}
+use Rattle.alf_filter.specs.declared.Filter.the-variants.{Luma, Chroma, CrossComponent}
+use Rattle.alf_filter.specs.Filters.{operationOf, columnRatio, rowRatio}
+
+-- an accepted picture, its planes as far as the filter is given them, and the tap order
+pub record Given (f : Filter) (p : Picture) (g : Grid) (lumaSamples chromaSamples places : List ℕ) : Type 0 where
+  pub grid : GridOf p g
+  pub sizes : pictureSizeValid p ≡ true
+  pub ctbSize : ctbSizeValid p ≡ true
+  pub depth : bitDepthValid p ≡ true
+  pub lumaLength : given (operationOf f) .luma ≡ true → length lumaSamples ≡ p .width * p .height
+  pub chromaLength : given (operationOf f) .chroma ≡ true → length chromaSamples ≡ (p .width / subWidth p) * (p .height / subHeight p)
+  pub luma : (k : ℕ) → getD lumaSamples k 0 < 4096
+  pub chroma : (k : ℕ) → getD chromaSamples k 0 < 4096
+  pub order : Places places
+
+-- what it works in: room for the copy of a piece and for its differences, the spread numbers of a filter, and an output of the plane's size
+pub record Rooms (f : Filter) (p : Picture) (copy differences : ℕ) (taps : List ℤ) (output : ℕ) : Type 0 where
+  pub copyRoom : area ≤ copy
+  pub differenceRoom : 4 * area ≤ differences
+  pub spread : TapNumbers taps
+  pub outputLength : output ≡ (p .width / columnRatio f p) * (p .height / rowRatio f p)
+
+-- a chroma filter's numbers in their ranges: 6 coefficients, 6 clips
+pub record ChromaNumbers (filters : List ℤ) : Type 0 where
+  pub count : 12 ≤ length filters
+  pub coefficients : (j : ℕ) → j < 6 → CoeffRange (getD filters j (pos 0))
+  pub clips : (j : ℕ) → j < 6 → ClipRange (getD filters (6 + j) (pos 0))
+
+-- a cross-component filter's: 7 coefficients
+pub record CrossNumbers (filters : List ℤ) : Type 0 where
+  pub count : 7 ≤ length filters
+  pub coefficients : (j : ℕ) → CoeffRange (getD filters j (pos 0))
+
+-- the numbers of a filter are in their ranges
+abbrev pub Numbers : Filter → List ℤ → Type 0
+Numbers Luma filters = FilterNumbers filters
+Numbers (Chroma component) filters = ChromaNumbers filters
+Numbers (CrossComponent component) filters = CrossNumbers filters

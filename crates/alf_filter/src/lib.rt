@@ -1,0 +1,9 @@
+// The three filters, from a piece of a CTB to the plane: one driver for all, since they differ only in what they do with a piece.
+mod pieces;
+
+// Which filter; a component is 0 (Cb) or 1 (Cr).
+pub enum Filter {
+    Luma,
+    Chroma(u8),
+    CrossComponent(u8),
+}

@@ -1,0 +1,101 @@
+// A piece of a CTB, filtered.
+ghost use mathlib.Core.Path.{_≡_};
+ghost use Prim.Native.Nat.{_/_, _<_, _≤_};
+ghost use lib.ListN.{length};
+ghost use Rattle.alf_spec.specs.Lists.{painted};
+ghost use Rattle.alf_spec.specs.Input.{Input};
+ghost use Rattle.alf_spec.specs.Geometry.{lumaPlane};
+ghost use Rattle.alf_spec.specs.Boundary.{columnDisabled, rowDisabled};
+ghost use Rattle.alf_spec.specs.Process.{atIndex, outputPlane};
+ghost use Rattle.alf_spec.specs.declared.Ctb.{Ctb};
+ghost use Rattle.alf_pieces.specs.Regions.{inRect};
+ghost use Rattle.alf_pieces.specs.Pieces.{PieceOf, BlockPiece, CtbOf};
+ghost use Rattle.alf_taps.specs.Spread.{TapNumbers};
+ghost use Rattle.alf_filter.specs.Filters.{operationOf, columnRatio, rowRatio, sampleOf, OwnFilter};
+ghost use Rattle.alf_filter.specs.Work.{Given, Rooms, Numbers};
+use crate::Filter;
+use alf_math::grid::sub_height;
+use alf_math::grid::sub_width;
+use alf_pieces::pieces::Piece;
+use alf_pieces::pieces::scaled;
+use alf_spec::Grid;
+use alf_spec::Picture;
+use alf_spec::Sides;
+
+// The samples of a piece of the luma plane, or the chroma samples that lie in it, by the filter: those of every input in which a CTB has these
+// sides and this filter's numbers, and the piece is one of its pieces.
+pub(crate) fn filter_piece(
+    filter: Filter,
+    picture: Picture,
+    grid: Grid,
+    sides: Sides,
+    columns: Piece,
+    rows: Piece,
+    luma: &[u16],
+    chroma: &[u16],
+    filters: &[i16],
+    places: &[u8],
+    copy: &mut [u16],
+    differences: &mut [u16],
+    taps: &mut [i16],
+    output: &mut [u16],
+)
+    requires { ⌜ (Given filter picture grid (now luma) (now chroma) (now places)) × (Numbers filter (now filters))
+        × (Rooms filter picture (length (now copy)) (length (now differences)) (now taps) (length (now output)))
+        × (BlockPiece (picture .width) columns) × (BlockPiece (picture .height) rows) ⌝ }
+    ensures { λ _. ⌜ ((i : Input) (c : Ctb) → CtbOf (i .layout) picture c sides → i .luma ≡ now (luma .entry) → i .chroma ≡ now (chroma .entry)
+        → OwnFilter filter i c (now (filters .entry))
+        → PieceOf (lumaPlane (i .layout) .columns) (columnDisabled (i .layout) c) (c .column) columns
+        → PieceOf (lumaPlane (i .layout) .rows) (rowDisabled (i .layout) c) (c .row) rows
+        → now (output .exit) ≡ painted (now (output .entry)) (inRect (picture .width / columnRatio filter picture)
+        (columns .start / columnRatio filter picture) (columns .end / columnRatio filter picture)
+        (rows .start / rowRatio filter picture) (rows .end / rowRatio filter picture))
+        (atIndex (outputPlane (operationOf filter) (i .layout)) (sampleOf filter i))) × (TapNumbers (now (taps .exit))) ⌝ }
+{
+    match filter {
+        Filter::Luma => {
+            alf_luma::filter_piece(
+                picture,
+                grid,
+                sides,
+                columns,
+                rows,
+                luma,
+                filters,
+                places,
+                copy,
+                differences,
+                taps,
+                output,
+            );
+        }
+        Filter::Chroma(_) => {
+            alf_chroma::piece::filter_piece(
+                picture,
+                grid,
+                sides,
+                scaled(columns, sub_width(picture)),
+                scaled(rows, sub_height(picture)),
+                chroma,
+                filters,
+                copy,
+                taps,
+                output,
+            );
+        }
+        Filter::CrossComponent(_) => {
+            alf_cross::filter_piece(
+                picture,
+                grid,
+                sides,
+                columns,
+                rows,
+                luma,
+                chroma,
+                filters,
+                copy,
+                output,
+            );
+        }
+    }
+}
