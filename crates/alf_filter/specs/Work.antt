@@ -2,22 +2,30 @@
 use mathlib.Core.Path.{_≡_}
 use mathlib.Core.Bool.{true}
 use mathlib.Core.List.{List}
-use Prim.Native.Nat.{ℕ, _+_, _*_, _/_, _≤_, _<_}
+use Prim.Native.Nat.{ℕ, _+_, _*_, _/_, _≤_, _<_, min}
 use lib.IntN.{ℤ, pos}
 use lib.ListN.{length, getD}
+use Rattle.alf_spec.specs.declared.Ctb.{Ctb}
 use Rattle.alf_spec.specs.declared.Grid.{Grid}
 use Rattle.alf_spec.specs.declared.Picture.{Picture}
-use Rattle.alf_spec.specs.Input.{given}
-use Rattle.alf_spec.specs.Geometry.{subWidth, subHeight}
+use Rattle.alf_spec.specs.declared.Sides.{Sides}
+use Rattle.alf_spec.specs.Lists.{painted}
+use Rattle.alf_spec.specs.Input.{given, Input}
+use Rattle.alf_spec.specs.Geometry.{subWidth, subHeight, lumaPlane}
+use Rattle.alf_spec.specs.Boundary.{columnDisabled, rowDisabled}
+use Rattle.alf_spec.specs.Process.{atIndex, outputPlane}
 use Rattle.alf_spec.specs.Faults.{pictureSizeValid, ctbSizeValid, bitDepthValid}
 use Rattle.alf_math.specs.Grids.{GridOf}
 use Rattle.alf_math.specs.Integers.{CoeffRange, ClipRange}
+use Rattle.alf_pieces.specs.declared.pieces.Piece.{Piece}
+use Rattle.alf_pieces.specs.Regions.{inRect}
+use Rattle.alf_pieces.specs.Pieces.{PieceOf, CtbOf}
 use Rattle.alf_pieces.specs.Copies.{area}
 use Rattle.alf_taps.specs.Spread.{TapNumbers}
 use Rattle.alf_luma.specs.Filters.{FilterNumbers, Places}
 use Rattle.alf_filter.specs.declared.Filter.{Filter}
 use Rattle.alf_filter.specs.declared.Filter.the-variants.{Luma, Chroma, CrossComponent}
-use Rattle.alf_filter.specs.Filters.{operationOf, columnRatio, rowRatio}
+use Rattle.alf_filter.specs.Filters.{operationOf, columnRatio, rowRatio, sampleOf, OwnFilter}
 
 -- an accepted picture, its planes as far as the filter is given them, and the tap order
 pub record Given (f : Filter) (p : Picture) (g : Grid) (lumaSamples chromaSamples places : List ℕ) : Type 0 where
@@ -54,3 +62,30 @@ abbrev pub Numbers : Filter → List ℤ → Type 0
 Numbers Luma filters = FilterNumbers filters
 Numbers (Chroma component) filters = ChromaNumbers filters
 Numbers (CrossComponent component) filters = CrossNumbers filters
+
+-- a piece is filtered: `new` is `old` with the piece's samples, or those of the filter's plane that lie in it, written anew, for every input in
+-- which a CTB has these sides and this filter's numbers, and the piece is one of its pieces
+abbrev pub PieceFiltered : Filter → Picture → Sides → Piece → Piece → List ℕ → List ℕ → List ℤ → List ℕ → List ℕ → Type 0
+PieceFiltered f p sides columns rows lumaSamples chromaSamples filters old new =
+    (i : Input) (c : Ctb) → CtbOf (i .layout) p c sides → i .luma ≡ lumaSamples → i .chroma ≡ chromaSamples → OwnFilter f i c filters
+    → PieceOf (lumaPlane (i .layout) .columns) (columnDisabled (i .layout) c) (c .column) columns
+    → PieceOf (lumaPlane (i .layout) .rows) (rowDisabled (i .layout) c) (c .row) rows
+    → new ≡ painted old (inRect (p .width / columnRatio f p) (columns .start / columnRatio f p) (columns .end / columnRatio f p)
+    (rows .start / rowRatio f p) (rows .end / rowRatio f p)) (atIndex (outputPlane (operationOf f) (i .layout)) (sampleOf f i))
+
+-- the pieces of a CTB's columns up to x are filtered, in a piece of its rows
+abbrev pub ColumnsFiltered : Filter → Picture → Grid → List ℕ → Ctb → Sides → Piece → List ℕ → List ℕ → List ℤ → ℕ → List ℕ → List ℕ → Type 0
+ColumnsFiltered f p g virtualColumns c sides rows lumaSamples chromaSamples filters x old new =
+    (i : Input) → CtbOf (i .layout) p c sides → i .layout .virtualColumns ≡ virtualColumns → i .luma ≡ lumaSamples → i .chroma ≡ chromaSamples
+    → OwnFilter f i c filters → PieceOf (lumaPlane (i .layout) .rows) (rowDisabled (i .layout) c) (c .row) rows
+    → new ≡ painted old (inRect (p .width / columnRatio f p) (c .column * g .ctb / columnRatio f p) (x / columnRatio f p)
+    (rows .start / rowRatio f p) (rows .end / rowRatio f p)) (atIndex (outputPlane (operationOf f) (i .layout)) (sampleOf f i))
+
+-- the pieces of its rows up to y
+abbrev pub RowsFiltered : Filter → Picture → Grid → List ℕ → List ℕ → Ctb → Sides → List ℕ → List ℕ → List ℤ → ℕ → List ℕ → List ℕ → Type 0
+RowsFiltered f p g virtualColumns virtualRows c sides lumaSamples chromaSamples filters y old new =
+    (i : Input) → CtbOf (i .layout) p c sides → i .layout .virtualColumns ≡ virtualColumns → i .layout .virtualRows ≡ virtualRows
+    → i .luma ≡ lumaSamples → i .chroma ≡ chromaSamples → OwnFilter f i c filters
+    → new ≡ painted old (inRect (p .width / columnRatio f p) (c .column * g .ctb / columnRatio f p)
+    (min (c .column * g .ctb + g .ctb) (p .width) / columnRatio f p) (c .row * g .ctb / rowRatio f p) (y / rowRatio f p))
+    (atIndex (outputPlane (operationOf f) (i .layout)) (sampleOf f i))

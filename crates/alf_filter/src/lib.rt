@@ -1,4 +1,5 @@
 // The three filters, from a piece of a CTB to the plane: one driver for all, since they differ only in what they do with a piece.
+mod ctbs;
 mod pieces;
 
 // Which filter; a component is 0 (Cb) or 1 (Cr).

@@ -1,18 +1,8 @@
 // A piece of a CTB, filtered.
-ghost use mathlib.Core.Path.{_≡_};
-ghost use Prim.Native.Nat.{_/_, _<_, _≤_};
 ghost use lib.ListN.{length};
-ghost use Rattle.alf_spec.specs.Lists.{painted};
-ghost use Rattle.alf_spec.specs.Input.{Input};
-ghost use Rattle.alf_spec.specs.Geometry.{lumaPlane};
-ghost use Rattle.alf_spec.specs.Boundary.{columnDisabled, rowDisabled};
-ghost use Rattle.alf_spec.specs.Process.{atIndex, outputPlane};
-ghost use Rattle.alf_spec.specs.declared.Ctb.{Ctb};
-ghost use Rattle.alf_pieces.specs.Regions.{inRect};
-ghost use Rattle.alf_pieces.specs.Pieces.{PieceOf, BlockPiece, CtbOf};
+ghost use Rattle.alf_pieces.specs.Pieces.{BlockPiece};
 ghost use Rattle.alf_taps.specs.Spread.{TapNumbers};
-ghost use Rattle.alf_filter.specs.Filters.{operationOf, columnRatio, rowRatio, sampleOf, OwnFilter};
-ghost use Rattle.alf_filter.specs.Work.{Given, Rooms, Numbers};
+ghost use Rattle.alf_filter.specs.Work.{Given, Rooms, Numbers, PieceFiltered};
 use crate::Filter;
 use alf_math::grid::sub_height;
 use alf_math::grid::sub_width;
@@ -43,14 +33,8 @@ pub(crate) fn filter_piece(
     requires { ⌜ (Given filter picture grid (now luma) (now chroma) (now places)) × (Numbers filter (now filters))
         × (Rooms filter picture (length (now copy)) (length (now differences)) (now taps) (length (now output)))
         × (BlockPiece (picture .width) columns) × (BlockPiece (picture .height) rows) ⌝ }
-    ensures { λ _. ⌜ ((i : Input) (c : Ctb) → CtbOf (i .layout) picture c sides → i .luma ≡ now (luma .entry) → i .chroma ≡ now (chroma .entry)
-        → OwnFilter filter i c (now (filters .entry))
-        → PieceOf (lumaPlane (i .layout) .columns) (columnDisabled (i .layout) c) (c .column) columns
-        → PieceOf (lumaPlane (i .layout) .rows) (rowDisabled (i .layout) c) (c .row) rows
-        → now (output .exit) ≡ painted (now (output .entry)) (inRect (picture .width / columnRatio filter picture)
-        (columns .start / columnRatio filter picture) (columns .end / columnRatio filter picture)
-        (rows .start / rowRatio filter picture) (rows .end / rowRatio filter picture))
-        (atIndex (outputPlane (operationOf filter) (i .layout)) (sampleOf filter i))) × (TapNumbers (now (taps .exit))) ⌝ }
+    ensures { λ _. ⌜ (PieceFiltered filter picture sides columns rows (now (luma .entry)) (now (chroma .entry)) (now (filters .entry))
+        (now (output .entry)) (now (output .exit))) × (TapNumbers (now (taps .exit))) ⌝ }
 {
     match filter {
         Filter::Luma => {

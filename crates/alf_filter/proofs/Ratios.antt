@@ -1,0 +1,34 @@
+-- The ratios to luma of the planes that the filters write, and what a filter works in from one piece to the next. Assumes nothing.
+use mathlib.Core.Path.{_≡_, _∙_}
+use mathlib.Core.List.{List}
+use Prim.Native.Nat.{ℕ, _/_, _≤_}
+use native.Mathlib.Omega.{arith}
+use lib.IntN.{ℤ}
+use Rattle.alf_spec.specs.declared.Picture.{Picture}
+use Rattle.alf_spec.proofs.IsolatedRegions.Ratios.{Ratio, whole, half, chroma-ratios}
+use Rattle.alf_taps.specs.Spread.{TapNumbers}
+use Rattle.alf_filter.specs.declared.Filter.{Filter}
+use Rattle.alf_filter.specs.declared.Filter.the-variants.{Luma, Chroma, CrossComponent}
+use Rattle.alf_filter.specs.Filters.{columnRatio, rowRatio}
+use Rattle.alf_filter.specs.Work.{Rooms}
+
+pub filter-ratios : (f : Filter) (p : Picture) → Ratio (columnRatio f p) × Ratio (rowRatio f p)
+filter-ratios Luma p = (whole, whole)
+filter-ratios (Chroma component) p = chroma-ratios p
+filter-ratios (CrossComponent component) p = chroma-ratios p
+
+-- positions in order, in the plane's own samples
+pub own-order : {r : ℕ} → Ratio r → (a b : ℕ) → a ≤ b → a / r ≤ b / r
+own-order whole a b h = omega arith
+own-order half a b h = omega arith
+
+-- lists of the same lengths
+pub rooms-same : {f : Filter} {p : Picture} {copy copy′ differences differences′ output output′ : ℕ} {taps taps′ : List ℤ}
+    → Rooms f p copy differences taps output → copy′ ≡ copy → differences′ ≡ differences → TapNumbers taps′ → output′ ≡ output
+    → Rooms f p copy′ differences′ taps′ output′
+rooms-same rooms c d taps o = record {
+  copyRoom = rw c (rooms .copyRoom);
+  differenceRoom = rw d (rooms .differenceRoom);
+  spread = taps;
+  outputLength = o ∙ rooms .outputLength;
+}

@@ -1,0 +1,88 @@
+-- `alf_filter::pieces::filter_piece` meets its contract: each filter's own function does. Assumes nothing.
+use mathlib.Core.Path.{ap, _∙_}
+use Prim.Native.Nat.{ℕ}
+use borrow.Author.Needs.{needs}
+use Rattle.alf_spec.proofs.IsolatedRegions.Ratios.{chroma-ratios}
+use Rattle.alf_pieces.specs.Pieces.{scaled}
+use Rattle.alf_filter.proofs.PieceFilters.{luma-work, chroma-work, cross-work, scaled-in, luma-filtered, chroma-filtered, cross-filtered}
+use Rattle.alf_filter.proofs.pieces.filter_piece.Statement.{statement}
+use Rattle.alf_filter.proofs.pieces.filter_piece.Tie as tie
+
+-- what the function is given, from each arm of its match
+abbrev luma-start : tie.After-enum-told → tie.Start
+luma-start c = c .before .before .before .before .before .before .before .before
+
+abbrev chroma-start : tie.After-enum-told2 → tie.Start
+chroma-start c = c .before .before .before .before .before .before .before .before
+
+abbrev cross-start : tie.After-enum-told3 → tie.Start
+cross-start c = c .before .before .before .before .before .before .before .before
+
+filter-piece-requires : tie.Need-filter-piece-requires
+filter-piece-requires c κs =
+    let f = c .before .before .before .before in
+    let s = luma-start f in
+    (luma-work _ (s .pre .0) (s .pre .1) (s .pre .2) (f .enum-told .given .1), s .pre .3, s .pre .4)
+
+filter-piece-requires-2 : tie.Need-filter-piece-requires-2
+filter-piece-requires-2 c κs =
+    let f = c .before .before .before .before .before .before .before in
+    let s = chroma-start f in
+    let ratios = chroma-ratios (s .args .picture) in
+    rw (c .before .before .before .before .before .scaled .ensures, c .before .before .before .before .before .before .sub-width .ensures .0, c .before .before .before .scaled2 .ensures, c .before .before .before .before .sub-height .ensures .0)
+    (chroma-work _ (s .pre .0) (s .pre .1) (s .pre .2) (f .enum-told2 .given .1), scaled-in (ratios .0) (s .pre .3), scaled-in (ratios .1) (s .pre .4))
+
+filter-piece-requires-3 : tie.Need-filter-piece-requires-3
+filter-piece-requires-3 c κs =
+    let f = c .before .before in
+    let s = cross-start f in
+    (cross-work _ (s .pre .0) (s .pre .1) (s .pre .2) (f .enum-told3 .given .1), s .pre .3, s .pre .4)
+
+returns : tie.Need-returns
+returns c =
+    let f = c .before .before .before .before .before .before .before .before .before .before .before .before in
+    let done = c .before .before .before .before .before .before .before .filter-piece .ensures in
+    (luma-filtered _ _ _ _ _ _ _ _ _ _ (f .enum-told .given .1) (done .0), done .1)
+
+returns-2 : tie.Need-returns-2
+returns-2 c =
+    let f = c .before .before .before .before .before .before .before .before .before .before .before .before .before in
+    let s = chroma-start f in
+    let a = s .args in
+    let done = c .before .before .before .before .before .filter-piece2 .ensures in
+    (chroma-filtered _ _ _ _ _ _ _ _ _ _ (f .enum-told2 .given .1) (s .pre .3) (s .pre .4)
+    (c .before .before .before .before .before .before .before .before .before .before .before .scaled .ensures ∙ ap (λ (r : ℕ). scaled r (a .columns)) (c .before .before .before .before .before .before .before .before .before .before .before .before .sub-width .ensures .0))
+    (c .before .before .before .before .before .before .before .before .before .scaled2 .ensures ∙ ap (λ (r : ℕ). scaled r (a .rows)) (c .before .before .before .before .before .before .before .before .before .before .sub-height .ensures .0)) (done .0), done .1)
+
+returns-3 : tie.Need-returns-3
+returns-3 c =
+    let f = c .before .before .before .before .before .before .before in
+    let s = cross-start f in
+    (cross-filtered _ _ _ _ _ _ _ _ _ _ (f .enum-told3 .given .1) (c .before .before .before .before .filter-piece3 .ensures), s .pre .2 .spread)
+
+pub filter-piece-spec : {M : Type 1} → statement M
+filter-piece-spec =
+    tie.close
+    (tie.spec
+    (λ c. search needs)
+    filter-piece-requires
+    (λ c. search needs)
+    (λ c κs. search needs)
+    (λ c κs. search needs)
+    (λ c κs. search needs)
+    (λ c κs. search needs)
+    filter-piece-requires-2
+    (λ c. search needs)
+    filter-piece-requires-3
+    (λ c. search needs)
+    (λ c. search needs)
+    (λ c. search needs)
+    (λ c. search needs)
+    returns
+    (λ c. search needs)
+    (λ c. search needs)
+    (λ c. search needs)
+    returns-2
+    (λ c. search needs)
+    (λ c. search needs)
+    returns-3)
