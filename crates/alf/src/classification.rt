@@ -1,10 +1,7 @@
 // The class map: the class and the transpose of every 4 by 4 luma block.
-ghost use mathlib.Core.Path.{_≡_};
 ghost use lib.ListN.{length};
 ghost use Rattle.alf_spec.specs.Input.{classes as classesOf, layoutOf, classesInput};
-ghost use Rattle.alf_spec.specs.Process.{result};
-ghost use Rattle.alf_spec.specs.Faults.{fault as faultOf};
-ghost use Rattle.alf_spec.specs.Answers.{number as numberOf, kept};
+ghost use Rattle.alf.specs.Runs.{Ran};
 use alf_classify::class_map;
 use alf_spec::Answer;
 use alf_spec::Picture;
@@ -28,8 +25,7 @@ pub fn classes(
         let layout = layoutOf picture (now («virtual_columns» .entry)) (now («virtual_rows» .entry)) (now («tile_columns» .entry))
         (now («tile_rows» .entry)) (now («slice_map» .entry)) (now («subpic_map» .entry)) (now («subpic_across» .entry)) in
         let input = classesInput layout (now (luma .entry)) (length (now (map .entry))) in
-        let fault = faultOf classesOf input in
-        (numberOf r ≡ fault) × (now (map .exit) ≡ kept fault (result classesOf input) (now (map .entry)))) ⌝ }
+        Ran classesOf input r (now (map .entry)) (now (map .exit))) ⌝ }
 {
     let answer = judge_classes(
         picture,

@@ -49,7 +49,7 @@ module _ {f : Filter} {p : Picture} {g : Grid} {luma chroma places : List ℕ} (
           outputLength = simp div-one at (rooms .outputLength);
         };
         lumaLength = given .lumaLength refl;
-        samples = given .luma;
+        samples = given .luma refl;
         copyRoom = rooms .copyRoom;
         differenceRoom = rooms .differenceRoom;
       }
@@ -66,7 +66,7 @@ module _ {f : Filter} {p : Picture} {g : Grid} {luma chroma places : List ℕ} (
         depth = given .depth;
         chromaLength = given .chromaLength refl;
         outputLength = rooms .outputLength;
-        samples = given .chroma;
+        samples = given .chroma refl;
         filterLength = numbers .count;
         coefficients = numbers .coefficients;
         clips = numbers .clips;
@@ -87,12 +87,12 @@ module _ {f : Filter} {p : Picture} {g : Grid} {luma chroma places : List ℕ} (
           depth = given .depth;
           chromaLength = given .chromaLength refl;
           outputLength = rooms .outputLength;
-          chromaSamples = given .chroma;
+          chromaSamples = given .chroma refl;
           filterLength = numbers .count;
           coefficients = numbers .coefficients;
         };
         lumaLength = given .lumaLength refl;
-        lumaSamples = given .luma;
+        lumaSamples = given .luma refl;
         copyRoom = rooms .copyRoom;
       }
 

@@ -34,11 +34,11 @@ rowRatio Luma p = 1
 rowRatio (Chroma component) p = subHeight p
 rowRatio (CrossComponent component) p = subHeight p
 
--- the plane that it filters
-abbrev pub filteredFrom : Filter → Input → List ℕ
-filteredFrom Luma i = i .luma
-filteredFrom (Chroma component) i = i .chroma
-filteredFrom (CrossComponent component) i = i .chroma
+-- the plane that it filters, of luma and chroma
+abbrev pub planeOf : Filter → List ℕ → List ℕ → List ℕ
+planeOf Luma lumaSamples chromaSamples = lumaSamples
+planeOf (Chroma component) lumaSamples chromaSamples = chromaSamples
+planeOf (CrossComponent component) lumaSamples chromaSamples = chromaSamples
 
 -- a CTB's flag or index is on
 abbrev pub isOn : Filter → Input → Ctb → Bool

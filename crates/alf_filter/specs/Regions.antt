@@ -20,3 +20,7 @@ filteredBefore i g on k n = beforeCtb (i .layout) g k n && isFiltered i g on n
 -- k stands in the list
 unfoldable pub isListed : List ℕ → ℕ → Bool
 isListed list k = elem k list
+
+-- the mark of a CTB that is listed
+abbrev pub marked : ℕ → ℕ
+marked k = 1

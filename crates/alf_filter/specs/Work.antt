@@ -35,8 +35,8 @@ pub record Given (f : Filter) (p : Picture) (g : Grid) (lumaSamples chromaSample
   pub depth : bitDepthValid p ≡ true
   pub lumaLength : given (operationOf f) .luma ≡ true → length lumaSamples ≡ p .width * p .height
   pub chromaLength : given (operationOf f) .chroma ≡ true → length chromaSamples ≡ (p .width / subWidth p) * (p .height / subHeight p)
-  pub luma : (k : ℕ) → getD lumaSamples k 0 < 4096
-  pub chroma : (k : ℕ) → getD chromaSamples k 0 < 4096
+  pub luma : given (operationOf f) .luma ≡ true → (k : ℕ) → getD lumaSamples k 0 < 4096
+  pub chroma : given (operationOf f) .chroma ≡ true → (k : ℕ) → getD chromaSamples k 0 < 4096
   pub order : Places places
 
 -- what it works in: room for the copy of a piece and for its differences, the spread numbers of a filter, and an output of the plane's size

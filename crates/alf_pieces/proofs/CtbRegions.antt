@@ -71,16 +71,16 @@ module _ (l : Layout) (ok : Accepted l) (columnRatio rowRatio : ℕ) (wholeColum
 
   -- the sample at index i
   module _ (i : ℕ) (h : i < planeLength plane) where
-    column-in : lumaPosition (plane .columns) (columnOf plane i) / plane .columns .ctb < ctbColumns l
+    pub column-in : let g = planeOf l columnRatio rowRatio in lumaPosition (g .columns) (columnOf g i) / g .columns .ctb < ctbColumns l
     unfolding planeOf
     column-in = ctb-below (plane .columns) (regular-columns l ok columnRatio rowRatio) _ (lt-own columnRatio _ _ (column-below plane i h))
 
-    row-in : lumaPosition (plane .rows) (rowOf plane i) / plane .rows .ctb < ctbRows l
+    pub row-in : let g = planeOf l columnRatio rowRatio in lumaPosition (g .rows) (rowOf g i) / g .rows .ctb < ctbRows l
     unfolding planeOf
     row-in = ctb-below (plane .rows) (regular-rows l ok columnRatio rowRatio) _ (lt-own rowRatio _ _ (row-below plane i h))
 
     -- it lies in one of the picture's CTBs
-    every-ctb : beforeCtb l plane (ctbTotal l) i ≡ true
+    pub every-ctb : beforeCtb l (planeOf l columnRatio rowRatio) (ctbTotal l) i ≡ true
     unfolding beforeCtb
     every-ctb = lt-ltb _ _ (address-below l (ctbAt plane (columnOf plane i) (rowOf plane i)) column-in row-in)
 

@@ -65,7 +65,7 @@ fn row_limit(columns: Piece, rows: Piece, sides: Sides, v: usize) -> usize
 }
 
 // n samples from `from` on, to `at`.
-fn copy_run(plane: &[u16], from: usize, n: usize, copy: &mut [u16], at: usize)
+pub fn copy_run(plane: &[u16], from: usize, n: usize, copy: &mut [u16], at: usize)
     requires { ⌜ (from + n ≤ length (now plane)) × (at + n ≤ length (now copy)) ⌝ }
     ensures { λ _. ⌜ now (copy .exit) ≡ painted (now (copy .entry)) (between at n) (runAt (now (plane .entry)) from at) ⌝ }
 {

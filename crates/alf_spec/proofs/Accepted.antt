@@ -17,7 +17,7 @@ use Rattle.alf_spec.specs.Faults.{sizeValid, pictureSizeValid, ctbSizeVa
 use Rattle.alf_spec.proofs.Tests.{both, implied, every-entry}
 
 -- of a chain of tests that gives no number, the first passes, and what follows gives none
-passed : (test : Bool) (n rest : ℕ) → unless test (suc n) rest ≡ 0 → (test ≡ true) × (rest ≡ 0)
+pub passed : (test : Bool) (n rest : ℕ) → unless test (suc n) rest ≡ 0 → (test ≡ true) × (rest ≡ 0)
 unfolding unless
 passed true n rest q = (refl, q)
 passed false n rest q = absurd (suc-ne-zero n q)

@@ -49,10 +49,12 @@ returns-2 c =
     let f = c .before .before .before .before .before .before .before .before .before .before .before .before .before in
     let s = chroma-start f in
     let a = s .args in
-    let done = c .before .before .before .before .before .filter-piece2 .ensures in
-    (chroma-filtered _ _ _ _ _ _ _ _ _ _ (f .enum-told2 .given .1) (s .pre .3) (s .pre .4)
-    (c .before .before .before .before .before .before .before .before .before .before .before .scaled .ensures ∙ ap (λ (r : ℕ). scaled r (a .columns)) (c .before .before .before .before .before .before .before .before .before .before .before .before .sub-width .ensures .0))
-    (c .before .before .before .before .before .before .before .before .before .scaled2 .ensures ∙ ap (λ (r : ℕ). scaled r (a .rows)) (c .before .before .before .before .before .before .before .before .before .before .sub-height .ensures .0)) (done .0), done .1)
+    let done = c .before .before .before .before .before .filter-piece2 .ensures in (
+      chroma-filtered _ _ _ _ _ _ _ _ _ _ (f .enum-told2 .given .1) (s .pre .3) (s .pre .4)
+          (c .before .before .before .before .before .before .before .before .before .before .before .scaled .ensures ∙ ap (λ (r : ℕ). scaled r (a .columns)) (c .before .before .before .before .before .before .before .before .before .before .before .before .sub-width .ensures .0))
+          (c .before .before .before .before .before .before .before .before .before .scaled2 .ensures ∙ ap (λ (r : ℕ). scaled r (a .rows)) (c .before .before .before .before .before .before .before .before .before .before .sub-height .ensures .0)) (done .0),
+      done .1,
+    )
 
 returns-3 : tie.Need-returns-3
 returns-3 c =

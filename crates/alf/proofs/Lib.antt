@@ -1,0 +1,2 @@
+-- Claims about the operations.
+pub mod IsolatedOutputs

@@ -1,0 +1,45 @@
+-- `alf_filter::tables::load` meets its contract. Assumes nothing.
+use mathlib.Core.Path.{subst, _∙_}
+use native.Mathlib.Omega.{arith}
+use borrow.Author.Needs.{needs}
+use Rattle.alf_filter.specs.declared.Filter.{Filter}
+use Rattle.alf_filter.specs.Tables.{ComponentOf, FixedGiven, Switched}
+use Rattle.alf_filter.proofs.TableFilters.{luma-loaded, chroma-loaded, cross-loaded}
+use Rattle.alf_filter.proofs.tables.load.Statement.{statement}
+use Rattle.alf_filter.proofs.tables.load.Tie as tie
+
+load-luma-requires : tie.Need-load-luma-requires
+load-luma-requires c κs =
+    let s = c .before .before .before .before .before .before .before in
+    let a = s .args in
+    (s .pre .1, subst (λ (f : Filter). FixedGiven f (a .depth) (a .fixed-filters .now) (a .fixed-map .now)) (c .before .enum-told .given .1) (s .pre .2), s .pre .4)
+
+load-chroma-requires : tie.Need-load-chroma-requires
+load-chroma-requires c κs =
+    let s = c .before .before .before .before .before .before .before .before in
+    (subst ComponentOf (c .before .before .filter .given .1) (s .pre .0), s .pre .1, s .pre .4)
+
+load-cross-requires : tie.Need-load-cross-requires
+load-cross-requires c κs =
+    let s = c .before .before .before .before .before .before .before .before in
+    let e = c .before .before .filter2 .given .1 in
+    (subst ComponentOf e (s .pre .0), s .pre .1, subst (λ (f : Filter). Switched f (s .args .ctb-params .now) (s .args .k)) e (s .pre .3), s .pre .4, s .pre .5)
+
+pub load-spec : {M : Type 1} → statement M
+load-spec =
+    tie.close
+    (tie.spec
+    (λ c. search needs)
+    load-luma-requires
+    (λ c. search needs)
+    load-chroma-requires
+    (λ c. search needs)
+    load-cross-requires
+    (λ c. search needs)
+    (λ c. luma-loaded _ _ _ _ _ _ _ _ _ _ (c .before .before .before .enum-told .given .1) (c .before .load-luma .ensures))
+    (λ c. search needs)
+    (λ c.
+    chroma-loaded _ _ _ _ _ _ _ _ _ _ (c .before .before .before .before .filter .given .1) (omega (arith, c .filters2 .given, c .before .before .before .before .before .before .before .before .before .before .pre .4)) (c .before .load-chroma .ensures))
+    (λ c. search needs)
+    (λ c.
+    cross-loaded _ _ _ _ _ _ _ _ _ _ (c .before .before .before .before .filter2 .given .1) (omega (arith, c .filters3 .given, c .before .before .before .before .before .before .before .before .before .before .pre .4)) (c .before .load-cross .ensures)))

@@ -1,0 +1,90 @@
+// Whether a CTB's flag or index is on, and the numbers of its filter, for each of the filters.
+ghost use mathlib.Core.Path.{_≡_};
+ghost use Prim.Native.Nat.{ℕ, _+_, _*_, _≤_};
+ghost use lib.IntN.{pos};
+ghost use lib.ListN.{length, getD};
+ghost use Rattle.alf_spec.specs.Input.{Input};
+ghost use Rattle.alf_spec.specs.Geometry.{address};
+ghost use Rattle.alf_spec.specs.declared.Ctb.{Ctb};
+ghost use Rattle.alf_params.specs.Tables.{CtbTables, TablesOf};
+ghost use Rattle.alf_filter.specs.Filters.{isOn, OwnFilter};
+ghost use Rattle.alf_filter.specs.Work.{Numbers};
+ghost use Rattle.alf_filter.specs.Tables.{ComponentOf, FixedGiven, FixedSame, Switched};
+use crate::Filter;
+use alf_params::chroma_on;
+use alf_params::cross_on;
+use alf_params::load_chroma;
+use alf_params::load_cross;
+use alf_params::load_luma;
+use alf_params::luma_on;
+
+// The flag or index of the CTB at address k.
+pub(crate) fn is_on(filter: Filter, ctb_params: &[u8], k: usize) -> bool
+    requires { ⌜ (ComponentOf filter) × (8 * k + 8 ≤ length (now «ctb_params»)) ⌝ }
+    ensures { λ r. ⌜ ((i : Input) (c : Ctb) → i .ctbParams ≡ now («ctb_params» .entry) → address (i .layout) c ≡ k → r ≡ isOn filter i c) ⌝ }
+{
+    match filter {
+        Filter::Luma => luma_on(ctb_params, k),
+        Filter::Chroma(component) => chroma_on(ctb_params, component, k),
+        Filter::CrossComponent(component) => cross_on(ctb_params, component, k),
+    }
+}
+
+// The numbers of its filter.
+pub(crate) fn load(
+    filter: Filter,
+    depth: u32,
+    k: usize,
+    slice_map: &[u8],
+    slice_params: &[u8],
+    bank: &[i16],
+    ctb_params: &[u8],
+    fixed_filters: &[i16],
+    fixed_map: &[u8],
+    filters: &mut [i16],
+)
+    requires { ⌜ (ComponentOf filter) × (CtbTables (now «slice_map») (now «slice_params») (now bank) (now «ctb_params») k)
+        × (FixedGiven filter depth (now «fixed_filters») (now «fixed_map»)) × (Switched filter (now «ctb_params») k) × (length (now filters) ≡ 600)
+        × ((j : ℕ) → getD (now filters) j (pos 0) ≡ pos 0) ⌝ }
+    ensures { λ _. ⌜ (Numbers filter (now (filters .exit))) × ((i : Input) (c : Ctb)
+        → TablesOf i c (now («slice_map» .entry)) (now («slice_params» .entry)) (now (bank .entry)) (now («ctb_params» .entry)) k
+        → FixedSame filter i depth (now («fixed_filters» .entry)) (now («fixed_map» .entry)) → OwnFilter filter i c (now (filters .exit))) ⌝ }
+{
+    match filter {
+        Filter::Luma => {
+            load_luma(
+                depth,
+                k,
+                slice_map,
+                slice_params,
+                bank,
+                ctb_params,
+                fixed_filters,
+                fixed_map,
+                filters,
+            );
+        }
+        Filter::Chroma(component) => {
+            load_chroma(
+                component,
+                k,
+                slice_map,
+                slice_params,
+                bank,
+                ctb_params,
+                filters,
+            );
+        }
+        Filter::CrossComponent(component) => {
+            load_cross(
+                component,
+                k,
+                slice_map,
+                slice_params,
+                bank,
+                ctb_params,
+                filters,
+            );
+        }
+    }
+}

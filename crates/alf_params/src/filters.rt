@@ -1,0 +1,145 @@
+// The numbers of the filter of the CTB at address k, taken from the tables.
+ghost use mathlib.Core.Path.{_≡_};
+ghost use Prim.Native.Nat.{ℕ, _+_, _-_, _*_, _^_, _≤_, _<_};
+ghost use lib.IntN.{pos, natAbs};
+ghost use lib.ListN.{length, getD};
+ghost use Rattle.alf_spec.specs.declared.Ctb.{Ctb};
+ghost use Rattle.alf_spec.specs.Input.{Input};
+ghost use Rattle.alf_spec.specs.Parameters.{crossAps, crossIndex, crossCoeff};
+ghost use Rattle.alf_math.specs.Integers.{CoeffRange, ClipRange};
+ghost use Rattle.alf_pieces.specs.Regions.{between};
+ghost use Rattle.alf_pieces.specs.Filled.{Filled};
+ghost use Rattle.alf_luma.specs.Filters.{LumaFilters, FilterNumbers};
+ghost use Rattle.alf_chroma.specs.Pieces.{ChromaFilter};
+ghost use Rattle.alf_params.specs.Tables.{ctbNumber, CtbTables, FixedTables, TablesOf, FixedOf};
+ghost use Rattle.alf_params.specs.Numbers.{copiedFrom, fixedNumber};
+use crate::entries::ctb_number;
+use crate::entries::slice_number;
+use alf_math::rounding::top_level;
+use alf_taps::fill;
+
+// An APS has 752 numbers: 600 for luma, then the chroma alternatives, and from 696 on the cross-component filters.
+const APS: usize = 752;
+
+const LUMA: usize = 600;
+
+const CROSS: usize = 696;
+
+// The first sets are fixed: a filter for each of 25 classes.
+const FIXED_SETS: usize = 16;
+
+const CLASSES: usize = 25;
+
+// n numbers of a table from `from` on, to the places from `to` on.
+fn copy_numbers(table: &[i16], from: usize, n: usize, filters: &mut [i16], to: usize)
+    requires { ⌜ (from + n ≤ length (now table)) × (to + n ≤ length (now filters)) × ((k : ℕ) → natAbs (getD (now table) k (pos 0)) ≤ 4096) ⌝ }
+    ensures { λ _. ⌜ Filled (pos 0) (now (filters .entry)) (between to n) (copiedFrom (now (table .entry)) from to) (now (filters .exit)) ⌝ }
+{
+    let mut j: usize = 0;
+    while j < n {
+        filters[to + j] = table[from + j];
+        j += 1;
+    }
+}
+
+// 1 << BitDepth: the clip of the fixed filters, (1456).
+fn fixed_clip(depth: u32) -> i16
+    requires { ⌜ depth ≤ 12 ⌝ }
+    ensures { λ r. ⌜ r ≡ pos (2 ^ depth) ⌝ }
+{
+    (top_level(depth) + 1) as i16
+}
+
+// The filters of a fixed set, which have coefficients alone.
+fn load_fixed(depth: u32, set: usize, fixed_filters: &[i16], fixed_map: &[u8], filters: &mut [i16])
+    requires { ⌜ (set < 16) × (FixedTables depth (now «fixed_filters») (now «fixed_map»)) × (length (now filters) ≡ 600) ⌝ }
+    ensures { λ _. ⌜ Filled (pos 0) (now (filters .entry)) (between 0 600)
+        (fixedNumber depth set (now («fixed_filters» .entry)) (now («fixed_map» .entry))) (now (filters .exit)) ⌝ }
+{
+    let clip = fixed_clip(depth);
+    let mut class: usize = 0;
+    while class < CLASSES {
+        let filter = fixed_map[CLASSES * set + class] as usize;
+        copy_numbers(fixed_filters, 12 * filter, 12, filters, 24 * class);
+        fill(filters, 24 * class + 12, 12, clip);
+        class += 1;
+    }
+}
+
+// The 25 luma filters: those of a fixed set, or of one of the slice's luma APSs.
+pub fn load_luma(
+    depth: u32,
+    k: usize,
+    slice_map: &[u8],
+    slice_params: &[u8],
+    bank: &[i16],
+    ctb_params: &[u8],
+    fixed_filters: &[i16],
+    fixed_map: &[u8],
+    filters: &mut [i16],
+)
+    requires { ⌜ (CtbTables (now «slice_map») (now «slice_params») (now bank) (now «ctb_params») k)
+        × (FixedTables depth (now «fixed_filters») (now «fixed_map»)) × (length (now filters) ≡ 600) ⌝ }
+    ensures { λ _. ⌜ (FilterNumbers (now (filters .exit))) × ((i : Input) (c : Ctb)
+        → TablesOf i c (now («slice_map» .entry)) (now («slice_params» .entry)) (now (bank .entry)) (now («ctb_params» .entry)) k
+        → FixedOf i depth (now («fixed_filters» .entry)) (now («fixed_map» .entry)) → LumaFilters i c (now (filters .exit))) ⌝ }
+{
+    let set = ctb_number(ctb_params, k, 3) as usize;
+    if set < FIXED_SETS {
+        load_fixed(depth, set, fixed_filters, fixed_map, filters);
+    } else {
+        let aps = slice_number(slice_map, slice_params, k, 1 + (set - FIXED_SETS)) as usize;
+        copy_numbers(bank, APS * aps, LUMA, filters, 0);
+    }
+}
+
+// The alternative of a chroma component: 6 coefficients and 6 clips.
+pub fn load_chroma(
+    component: u8,
+    k: usize,
+    slice_map: &[u8],
+    slice_params: &[u8],
+    bank: &[i16],
+    ctb_params: &[u8],
+    filters: &mut [i16],
+)
+    requires { ⌜ (component ≤ 1) × (CtbTables (now «slice_map») (now «slice_params») (now bank) (now «ctb_params») k)
+        × (length (now filters) ≡ 600) ⌝ }
+    ensures { λ _. ⌜ ((j : ℕ) → j < 6 → CoeffRange (getD (now (filters .exit)) j (pos 0)))
+        × ((j : ℕ) → j < 6 → ClipRange (getD (now (filters .exit)) (6 + j) (pos 0))) × ((i : Input) (c : Ctb)
+        → TablesOf i c (now («slice_map» .entry)) (now («slice_params» .entry)) (now (bank .entry)) (now («ctb_params» .entry)) k
+        → ChromaFilter i c component (now (filters .exit))) ⌝ }
+{
+    let aps = slice_number(slice_map, slice_params, k, 8) as usize;
+    let alternative = ctb_number(ctb_params, k, 4 + component as usize) as usize;
+    copy_numbers(bank, APS * aps + (LUMA + 12 * alternative), 12, filters, 0);
+}
+
+// The cross-component filter of a chroma component, which has 7 coefficients alone. Index 1 is the first filter: 0 is off.
+pub fn load_cross(
+    component: u8,
+    k: usize,
+    slice_map: &[u8],
+    slice_params: &[u8],
+    bank: &[i16],
+    ctb_params: &[u8],
+    filters: &mut [i16],
+)
+    requires { ⌜ (component ≤ 1) × (CtbTables (now «slice_map») (now «slice_params») (now bank) (now «ctb_params») k)
+        × (0 < ctbNumber (now «ctb_params») k (6 + component)) × (length (now filters) ≡ 600)
+        × ((j : ℕ) → getD (now filters) j (pos 0) ≡ pos 0) ⌝ }
+    ensures { λ _. ⌜ ((j : ℕ) → CoeffRange (getD (now (filters .exit)) j (pos 0))) × ((i : Input) (c : Ctb)
+        → TablesOf i c (now («slice_map» .entry)) (now («slice_params» .entry)) (now (bank .entry)) (now («ctb_params» .entry)) k
+        → (j : ℕ) → j < 7 → getD (now (filters .exit)) j (pos 0) ≡ crossCoeff i (crossAps i c component) component (crossIndex i c component - 1) j) ⌝ }
+{
+    let component = component as usize;
+    let aps = slice_number(slice_map, slice_params, k, 9 + component) as usize;
+    let index = ctb_number(ctb_params, k, 6 + component) as usize;
+    copy_numbers(
+        bank,
+        APS * aps + (CROSS + 28 * component + 7 * (index - 1)),
+        7,
+        filters,
+        0,
+    );
+}
