@@ -16,7 +16,6 @@ use Rattle.alf_spec.specs.Input.{Layout, Input}
 use Rattle.alf_spec.specs.Geometry.{subWidth, subHeight, planeOf, chromaPlane, samples, ctbAt, lineRule, bottomDistance}
 use Rattle.alf_spec.specs.Boundary.{columnDisabled, rowDisabled}
 use Rattle.alf_spec.specs.Arithmetic.{filtered}
-use Rattle.alf_spec.specs.Parameters.{chromaAps, chromaAlternative, chromaCoeff, chromaClip}
 use Rattle.alf_spec.specs.Chroma.{chromaPlus, chromaMinus, chromaRead, chromaWith, chromaSample}
 use Rattle.alf_spec.specs.Process.{atIndex}
 use Rattle.alf_spec.proofs.IsolatedRegions.Ratios.{chroma-ratios}
@@ -31,7 +30,6 @@ use Rattle.alf_pieces.proofs.CtbPieces.{column-facts, row-facts}
 use Rattle.alf_pieces.proofs.CopyReads.{own-ctb}
 use Rattle.alf_pieces.proofs.CopyHolds.{copy-holds}
 use Rattle.alf_pieces.proofs.CopySamples.{chroma-in}
-use Rattle.alf_taps.specs.Spread.{spreadCoeff, spreadClip}
 use Rattle.alf_taps.proofs.SpreadTaps.{taps-same}
 use Rattle.alf_chroma.specs.Samples.{copyPlus, copyMinus, copySample, pieceSample}
 use Rattle.alf_chroma.specs.Pieces.{ChromaFilter, Spread, copyChromaAt}

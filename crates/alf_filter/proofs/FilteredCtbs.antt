@@ -3,12 +3,11 @@ use mathlib.Core.Path.{_≡_, refl, sym, ap, subst, _∙_}
 use mathlib.Core.Bool.{Bool, true, false, _&&_, _||_, and-true, and-false}
 use mathlib.Core.List.{List}
 use Prim.Native.Nat.{ℕ, _+_, _*_, _/_, _%_, _<_}
-use lib.Dec.{eqb}
 use borrow.Author.Tests.{eqb-true}
 use Rattle.alf_spec.specs.declared.Ctb.{Ctb}
 use Rattle.alf_spec.specs.Lists.{elem, painted}
 use Rattle.alf_spec.specs.Input.{Layout, Input}
-use Rattle.alf_spec.specs.Geometry.{Plane, planeOf, planeLength, columnOf, rowOf, ctbAt, address, ctbTotal, ctbOf}
+use Rattle.alf_spec.specs.Geometry.{Plane, planeOf, planeLength, columnOf, rowOf, ctbAt, ctbTotal, ctbOf}
 use Rattle.alf_spec.specs.Process.{isFiltered, outputPlane}
 use Rattle.alf_spec.proofs.Planes.{address-ctb}
 use Rattle.alf_spec.proofs.Accepted.{Accepted}

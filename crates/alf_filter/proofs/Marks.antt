@@ -3,9 +3,8 @@ use mathlib.Core.Path.{_≡_, refl, ap, _∙_}
 use mathlib.Core.Bool.{Bool, true, false, cond}
 use mathlib.Core.List.{List}
 use Prim.Native.Nat.{ℕ, zero, _<_}
-use native.Mathlib.Omega.{arith}
 use lib.Dec.{eqb}
-use lib.ListN.{length, getD, replicate, getD-replicate, length-replicate}
+use lib.ListN.{getD, replicate, getD-replicate, length-replicate}
 use Rattle.alf_spec.specs.Lists.{elem, painted}
 use Rattle.alf_pieces.proofs.Painted.{paint-of}
 use Rattle.alf_filter.specs.Regions.{isListed, marked}

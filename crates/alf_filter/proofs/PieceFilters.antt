@@ -2,17 +2,16 @@
 use mathlib.Core.Path.{_≡_, refl, sym, ap, subst, _∙_}
 use mathlib.Core.Bool.{true, false}
 use mathlib.Core.List.{List}
-use Prim.Native.Nat.{ℕ, _*_, _/_, _%_, _≤_, _<_}
+use Prim.Native.Nat.{ℕ, _/_}
 use native.Mathlib.Nat.{div-one}
 use native.Mathlib.Omega.{arith}
 use lib.IntN.{ℤ}
-use lib.ListN.{length}
 use Rattle.alf_spec.specs.declared.Ctb.{Ctb}
 use Rattle.alf_spec.specs.declared.Grid.{Grid}
 use Rattle.alf_spec.specs.declared.Picture.{Picture}
 use Rattle.alf_spec.specs.declared.Sides.{Sides}
 use Rattle.alf_spec.specs.Lists.{painted}
-use Rattle.alf_spec.specs.Input.{Input, Layout}
+use Rattle.alf_spec.specs.Input.{Input}
 use Rattle.alf_spec.specs.Geometry.{subWidth, subHeight, ctbSize, planeOf, lumaPlane, chromaPlane}
 use Rattle.alf_spec.specs.Boundary.{columnDisabled, rowDisabled}
 use Rattle.alf_spec.specs.Luma.{lumaSample}

@@ -2,7 +2,7 @@
 use mathlib.Core.Path.{refl}
 use Prim.Native.Nat.{_+_}
 use native.Mathlib.Omega.{arith}
-use lib.IntN.{ℤ, pos}
+use lib.IntN.{pos}
 use lib.ListN.{replicate, length-replicate}
 use Rattle.alf_taps.specs.Spread.{TapNumbers}
 use Rattle.alf_params.proofs.LoadedFilters.{zeros}

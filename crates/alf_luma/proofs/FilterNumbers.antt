@@ -1,15 +1,12 @@
 -- How large a filter's numbers and the places of the tap order are. Assumes nothing.
-use mathlib.Core.Path.{_≡_, sym, ap}
-use mathlib.Core.Bool.{cond}
+use mathlib.Core.Path.{_≡_}
 use mathlib.Core.List.{List}
 use mathlib.Core.Logic.{_⊎_, ⊎-elim}
 use Prim.Native.Nat.{ℕ, _+_, _*_, _-_, _/_, _%_, _≤_, _<_}
 use native.Mathlib.Omega.{arith}
-use lib.Dec.{ltb}
 use lib.IntN.{ℤ, pos, natAbs}
-use lib.ListN.{length, getD, List·getD-eq-default}
+use lib.ListN.{getD, List·getD-eq-default}
 use borrow.Author.Tests.{lt-ltb, le-ltb}
-use Rattle.alf_spec.specs.Luma.{tapOrder}
 use Rattle.alf_spec.proofs.TapOrder.{each-below}
 use Rattle.alf_pieces.proofs.Regions.{order}
 use Rattle.alf_luma.specs.Filters.{FilterNumbers, tapPlace, Places}

@@ -16,10 +16,10 @@ use Rattle.alf_spec.specs.declared.Sides.{Sides}
 use Rattle.alf_spec.specs.Lists.{painted}
 use Rattle.alf_spec.specs.Arithmetic.{tapSum, filtered}
 use Rattle.alf_spec.specs.Input.{Layout, Input}
-use Rattle.alf_spec.specs.Geometry.{planeOf, lumaPlane, ctbAt, ctbSize, lineRule, bottomDistance}
+use Rattle.alf_spec.specs.Geometry.{planeOf, lumaPlane, ctbAt, lineRule, bottomDistance}
 use Rattle.alf_spec.specs.Boundary.{columnDisabled, rowDisabled}
 use Rattle.alf_spec.specs.Classes.{classOf, blockClass}
-use Rattle.alf_spec.specs.Luma.{lumaF, lumaC, tapOrder, lumaRows, lumaPlus, lumaMinus, lumaRowsAt, lumaRead, lumaWith, lumaSample}
+use Rattle.alf_spec.specs.Luma.{lumaF, lumaC, tapOrder, lumaPlus, lumaMinus, lumaRowsAt, lumaRead, lumaWith, lumaSample}
 use Rattle.alf_spec.specs.Process.{classNumber, atIndex}
 use Rattle.alf_spec.proofs.TapOrder.{each-below}
 use Rattle.alf_spec.proofs.IsolatedRegions.Ratios.{whole}

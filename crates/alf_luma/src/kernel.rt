@@ -1,12 +1,12 @@
 // A row of filtered samples, from the copy of a piece. One loop over the columns, with all twelve taps in its body and loads and stores of 16 bits
 // only: so the compiler makes vectors of eight columns.
 ghost use mathlib.Core.Path.{_≡_};
-ghost use Prim.Native.Nat.{_+_, _-_, _*_, _≤_, _<_};
-ghost use lib.ListN.{length, getD};
+ghost use Prim.Native.Nat.{_+_, _-_, _≤_, _<_};
+ghost use lib.ListN.{length};
 ghost use Rattle.alf_spec.specs.Lists.{painted};
 ghost use Rattle.alf_spec.specs.Arithmetic.{tapSum};
 ghost use Rattle.alf_pieces.specs.Regions.{between};
-ghost use Rattle.alf_taps.specs.Spread.{clipPlace, spreadCoeff, spreadClip, TapNumbers};
+ghost use Rattle.alf_taps.specs.Spread.{spreadCoeff, spreadClip, TapNumbers};
 ghost use Rattle.alf_luma.specs.Kernel.{plusSamples, minusSamples, current, filteredAt, rowFrom, RowReads};
 use alf_math::rounding::filtered;
 use alf_taps::add_tap;

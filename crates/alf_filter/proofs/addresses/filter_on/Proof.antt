@@ -1,5 +1,5 @@
 -- `alf_filter::addresses::filter_on` meets its contract: an accepted input has what the CTB's filter needs. Assumes nothing.
-use mathlib.Core.Path.{_≡_, refl, _∙_}
+use mathlib.Core.Path.{_≡_, refl}
 use mathlib.Core.List.{List, []}
 use Prim.Native.Nat.{ℕ, _/_, _%_, _<_}
 use native.Mathlib.Nat.{div-add-mod'}

@@ -1,5 +1,5 @@
 -- `alf_filter::listed::mark_listed` meets its contract: the CTBs of the first j entries are marked. Assumes nothing.
-use mathlib.Core.Path.{_≡_, refl, _∙_}
+use mathlib.Core.Path.{refl}
 use Prim.Native.Nat.{_-_, _≤_, _<_}
 use native.Mathlib.Nat.{le-antisymm}
 use native.Mathlib.Omega.{arith}

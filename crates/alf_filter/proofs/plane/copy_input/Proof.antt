@@ -1,6 +1,5 @@
 -- `alf_filter::plane::copy_input` meets its contract. Assumes nothing.
 use mathlib.Core.Path.{_≡_, sym, ap, _∙_}
-use mathlib.Core.List.{List}
 use borrow.Author.Needs.{needs}
 use lib.ListN.{length}
 use Rattle.alf_filter.specs.declared.Filter.{Filter}

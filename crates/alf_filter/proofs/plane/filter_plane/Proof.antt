@@ -1,5 +1,5 @@
 -- `alf_filter::plane::filter_plane` meets its contract: the input is copied, and the marked CTBs are filtered. Assumes nothing.
-use mathlib.Core.Path.{_≡_, refl, sym, ap, _∙_}
+use mathlib.Core.Path.{refl, sym, ap, _∙_}
 use mathlib.Core.List.{List}
 use Prim.Native.Nat.{ℕ, zero}
 use native.Mathlib.Omega.{arith}

@@ -1,5 +1,5 @@
 -- `alf_filter::tables::load` meets its contract. Assumes nothing.
-use mathlib.Core.Path.{subst, _∙_}
+use mathlib.Core.Path.{subst}
 use native.Mathlib.Omega.{arith}
 use borrow.Author.Needs.{needs}
 use Rattle.alf_filter.specs.declared.Filter.{Filter}

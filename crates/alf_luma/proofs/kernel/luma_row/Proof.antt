@@ -1,10 +1,9 @@
 -- `alf_luma::kernel::luma_row` meets its contract: the columns before x are filtered. Assumes nothing.
 use mathlib.Core.Path.{_≡_, ap, _∙_}
-use Prim.Native.Nat.{ℕ, _+_, _-_, _≤_}
+use Prim.Native.Nat.{_+_, _-_, _≤_}
 use native.Mathlib.Nat.{le-antisymm}
 use native.Mathlib.Omega.{arith}
 use borrow.Author.Needs.{needs}
-use lib.ListN.{length, length-set}
 use Rattle.alf_pieces.specs.Regions.{between}
 use Rattle.alf_pieces.proofs.Painted.{Paint, paint-is, paint-none, paint-set}
 use Rattle.alf_pieces.proofs.Regions.{run-none, run-more}

@@ -1,5 +1,5 @@
 -- `alf_luma::piece::filter_piece` meets its contract: the copy holds what the taps and the class windows of the piece's samples read. Assumes nothing.
-use mathlib.Core.Path.{_≡_, refl, _∙_}
+use mathlib.Core.Path.{refl, _∙_}
 use Prim.Native.Nat.{_≤_}
 use native.Mathlib.Omega.{arith}
 use borrow.Author.Needs.{needs}

@@ -1,13 +1,13 @@
 -- `alf_luma::spread::spread` meets its contract: the filters of the blocks before b are spread. Assumes nothing.
-use mathlib.Core.Path.{_≡_, sym, ap}
+use mathlib.Core.Path.{_≡_, ap}
 use mathlib.Core.Bool.{true}
 use mathlib.Core.Logic.{inl}
 use Prim.Native.Nat.{ℕ, _+_, _*_, _-_, _/_, _%_, _≤_}
 use native.Mathlib.Nat.{le-antisymm}
 use native.Mathlib.Omega.{arith}
 use borrow.Author.Needs.{needs}
-use lib.IntN.{ℤ, pos}
-use lib.ListN.{length, getD}
+use lib.IntN.{pos}
+use lib.ListN.{getD}
 use Rattle.alf_pieces.specs.Regions.{inRect}
 use Rattle.alf_pieces.specs.Filled.{Filled}
 use Rattle.alf_pieces.proofs.Painted.{fill-none, fill-call}

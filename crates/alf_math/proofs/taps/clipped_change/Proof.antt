@@ -1,7 +1,7 @@
 -- `alf_math::taps::clipped_change` meets its contract: the difference of two samples fits 16 bits. Assumes nothing.
 use mathlib.Core.Path.{_≡_, _∙_}
 use native.Mathlib.Omega.{arith}
-use lib.IntN.{pos, negℤ, _-ℤ_, +ℤ-idl}
+use lib.IntN.{pos, _-ℤ_, +ℤ-idl}
 use mir.Syntax.{w16}
 use mir.Val.{SFits, toZ, ofZ}
 use mir.Facts.{toZ-ofZ}

@@ -5,7 +5,6 @@ use lib.IntN.{ℤ, _+ℤ_, _*ℤ_}
 use mir.Syntax.{w16, w32}
 use mir.Val.{SFits, toZ, ofZ}
 use mir.Facts.{toZ-ofZ}
-use borrow.Author.Needs.{needs}
 use Rattle.alf_spec.specs.Arithmetic.{clippedChange, tap}
 use Rattle.alf_math.proofs.Magnitude.{abs-pair, abs-tap, fits-abs, widened, words, returned}
 use Rattle.alf_math.proofs.taps.tap.Statement.{statement}
