@@ -9,10 +9,11 @@ help:
 
 demo:
 	@echo "Proving the library and the examples (the first time a few minutes) ..."
-	@log=$$(mktemp); rt check worked_examples judge_examples class_examples > $$log 2>&1 || { cat $$log; rm -f $$log; exit 1; }; rm -f $$log
+	@log=$$(mktemp); rt check worked_examples judge_examples class_examples filter_examples > $$log 2>&1 || { cat $$log; rm -f $$log; exit 1; }; rm -f $$log
 	@./target/bin/worked_examples
 	@./target/bin/judge_examples
 	@./target/bin/class_examples
+	@./target/bin/filter_examples
 
 test:
 	@scripts/test.sh
