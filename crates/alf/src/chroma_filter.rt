@@ -1,6 +1,7 @@
 // The chroma filter of a picture.
 ghost use lib.ListN.{length};
 ghost use Rattle.alf_spec.specs.Input.{chroma as chromaOf, layoutOf, chromaInput};
+ghost use Rattle.alf_spec.specs.Answers.{number};
 ghost use Rattle.alf.specs.Runs.{Ran};
 use alf_filter::Filter;
 use alf_filter::filter_plane;
@@ -32,7 +33,7 @@ pub fn chroma(
         (now («tile_rows» .entry)) (now («slice_map» .entry)) (now («subpic_map» .entry)) (now («subpic_across» .entry)) in
         let input = chromaInput layout (now («slice_params» .entry)) (now (bank .entry)) (now («ctb_params» .entry)) (now («ctb_list» .entry)) (now (chroma .entry))
         (length (now (output .entry))) in
-        Ran (chromaOf component) input r (now (output .entry)) (now (output .exit))) ⌝ }
+        Ran (chromaOf component) input (number r) (now (output .entry)) (now (output .exit))) ⌝ }
 {
     let answer = judge_chroma(
         picture,

@@ -1,6 +1,7 @@
 // The class map: the class and the transpose of every 4 by 4 luma block.
 ghost use lib.ListN.{length};
 ghost use Rattle.alf_spec.specs.Input.{classes as classesOf, layoutOf, classesInput};
+ghost use Rattle.alf_spec.specs.Answers.{number};
 ghost use Rattle.alf.specs.Runs.{Ran};
 use alf_classify::class_map;
 use alf_spec::Answer;
@@ -25,7 +26,7 @@ pub fn classes(
         let layout = layoutOf picture (now («virtual_columns» .entry)) (now («virtual_rows» .entry)) (now («tile_columns» .entry))
         (now («tile_rows» .entry)) (now («slice_map» .entry)) (now («subpic_map» .entry)) (now («subpic_across» .entry)) in
         let input = classesInput layout (now (luma .entry)) (length (now (map .entry))) in
-        Ran classesOf input r (now (map .entry)) (now (map .exit))) ⌝ }
+        Ran classesOf input (number r) (now (map .entry)) (now (map .exit))) ⌝ }
 {
     let answer = judge_classes(
         picture,

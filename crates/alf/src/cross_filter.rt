@@ -1,6 +1,7 @@
 // The cross-component filter of a picture: the correction of chroma from luma.
 ghost use lib.ListN.{length};
 ghost use Rattle.alf_spec.specs.Input.{crossComponent, layoutOf, crossInput};
+ghost use Rattle.alf_spec.specs.Answers.{number};
 ghost use Rattle.alf.specs.Runs.{Ran};
 use alf_filter::Filter;
 use alf_filter::filter_plane;
@@ -33,7 +34,7 @@ pub fn cross_component(
         (now («tile_rows» .entry)) (now («slice_map» .entry)) (now («subpic_map» .entry)) (now («subpic_across» .entry)) in
         let input = crossInput layout (now («slice_params» .entry)) (now (bank .entry)) (now («ctb_params» .entry)) (now («ctb_list» .entry)) (now (luma .entry)) (now (chroma .entry))
         (length (now (output .entry))) in
-        Ran (crossComponent component) input r (now (output .entry)) (now (output .exit))) ⌝ }
+        Ran (crossComponent component) input (number r) (now (output .entry)) (now (output .exit))) ⌝ }
 {
     let answer = judge_cross_component(
         picture,

@@ -1,6 +1,7 @@
 // The luma filter of a picture.
 ghost use lib.ListN.{length};
 ghost use Rattle.alf_spec.specs.Input.{luma as lumaOf, layoutOf, lumaInput};
+ghost use Rattle.alf_spec.specs.Answers.{number};
 ghost use Rattle.alf.specs.Runs.{Ran};
 use alf_filter::Filter;
 use alf_filter::filter_plane;
@@ -33,7 +34,7 @@ pub fn luma(
         (now («tile_rows» .entry)) (now («slice_map» .entry)) (now («subpic_map» .entry)) (now («subpic_across» .entry)) in
         let input = lumaInput layout (now («slice_params» .entry)) (now (bank .entry)) (now («ctb_params» .entry)) (now («ctb_list» .entry)) (now («fixed_filters» .entry)) (now («fixed_map» .entry)) (now (luma .entry))
         (length (now (output .entry))) in
-        Ran lumaOf input r (now (output .entry)) (now (output .exit))) ⌝ }
+        Ran lumaOf input (number r) (now (output .entry)) (now (output .exit))) ⌝ }
 {
     let answer = judge_luma(
         picture,

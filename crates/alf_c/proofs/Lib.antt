@@ -1,0 +1,2 @@
+-- Claims about the C interface.
+pub mod Written

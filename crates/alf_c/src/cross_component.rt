@@ -1,0 +1,71 @@
+// The cross-component filter: the filtered plane of a component, corrected from the unfiltered luma plane.
+ghost use lib.ListN.{length};
+ghost use Rattle.alf_spec.specs.Input.{crossComponent, layoutOf, crossInput};
+ghost use Rattle.alf.specs.Runs.{Ran};
+ghost use Rattle.alf_c.specs.Calls.{pictureOf};
+use alf::number;
+use alf_spec::Picture;
+
+// The number of the lowest fault, and the output stays as it was; or 0, and the output is the result.
+#[no_mangle]
+pub extern "C" fn alf_cross_component(
+    width: u32,
+    height: u32,
+    ctb_log2: u8,
+    bit_depth: u8,
+    chroma_format: u8,
+    slice_count: u32,
+    across_tiles: bool,
+    across_slices: bool,
+    virtual_columns: &[u16],
+    virtual_rows: &[u16],
+    tile_columns: &[u8],
+    tile_rows: &[u8],
+    slice_map: &[u8],
+    subpic_map: &[u8],
+    subpic_across: &[u8],
+    component: u8,
+    slice_params: &[u8],
+    bank: &[i16],
+    ctb_params: &[u8],
+    ctb_list: &[u32],
+    luma: &[u16],
+    chroma: &[u16],
+    output: &mut [u16],
+) -> u8
+    ensures { λ r. ⌜ (
+        let picture = pictureOf width height «ctb_log2» «bit_depth» «chroma_format» «slice_count» «across_tiles» «across_slices» in
+        let layout = layoutOf picture (now («virtual_columns» .entry)) (now («virtual_rows» .entry)) (now («tile_columns» .entry))
+        (now («tile_rows» .entry)) (now («slice_map» .entry)) (now («subpic_map» .entry)) (now («subpic_across» .entry)) in
+        let input = crossInput layout (now («slice_params» .entry)) (now (bank .entry)) (now («ctb_params» .entry)) (now («ctb_list» .entry)) (now (luma .entry)) (now (chroma .entry))
+        (length (now (output .entry))) in
+        Ran (crossComponent component) input r (now (output .entry)) (now (output .exit))) ⌝ }
+{
+    number(alf::cross_component(
+        Picture {
+            width: width,
+            height: height,
+            ctb_log2: ctb_log2,
+            bit_depth: bit_depth,
+            chroma_format: chroma_format,
+            slice_count: slice_count,
+            across_tiles: across_tiles,
+            across_slices: across_slices,
+        },
+        virtual_columns,
+        virtual_rows,
+        tile_columns,
+        tile_rows,
+        slice_map,
+        subpic_map,
+        subpic_across,
+        component,
+        slice_params,
+        bank,
+        ctb_params,
+        ctb_list,
+        luma,
+        chroma,
+        output,
+    ))
+}

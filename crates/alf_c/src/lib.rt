@@ -1,0 +1,13 @@
+// The C interface (include/alf.h): each operation under its C name. Numbers pass as themselves, a slice as a pointer and a length; what is
+// returned is the number of 01's table, 0 where the input is accepted.
+mod chroma;
+mod classes;
+mod cross_component;
+mod isolated;
+mod luma;
+
+pub use chroma::alf_chroma;
+pub use classes::alf_classes;
+pub use cross_component::alf_cross_component;
+pub use isolated::alf_isolated;
+pub use luma::alf_luma;

@@ -1,0 +1,71 @@
+// The luma filter: the luma plane with each listed CTB whose flag is on filtered.
+ghost use lib.ListN.{length};
+ghost use Rattle.alf_spec.specs.Input.{luma as lumaOf, layoutOf, lumaInput};
+ghost use Rattle.alf.specs.Runs.{Ran};
+ghost use Rattle.alf_c.specs.Calls.{pictureOf};
+use alf::number;
+use alf_spec::Picture;
+
+// The number of the lowest fault, and the output stays as it was; or 0, and the output is the result.
+#[no_mangle]
+pub extern "C" fn alf_luma(
+    width: u32,
+    height: u32,
+    ctb_log2: u8,
+    bit_depth: u8,
+    chroma_format: u8,
+    slice_count: u32,
+    across_tiles: bool,
+    across_slices: bool,
+    virtual_columns: &[u16],
+    virtual_rows: &[u16],
+    tile_columns: &[u8],
+    tile_rows: &[u8],
+    slice_map: &[u8],
+    subpic_map: &[u8],
+    subpic_across: &[u8],
+    slice_params: &[u8],
+    bank: &[i16],
+    ctb_params: &[u8],
+    ctb_list: &[u32],
+    fixed_filters: &[i16],
+    fixed_map: &[u8],
+    luma: &[u16],
+    output: &mut [u16],
+) -> u8
+    ensures { λ r. ⌜ (
+        let picture = pictureOf width height «ctb_log2» «bit_depth» «chroma_format» «slice_count» «across_tiles» «across_slices» in
+        let layout = layoutOf picture (now («virtual_columns» .entry)) (now («virtual_rows» .entry)) (now («tile_columns» .entry))
+        (now («tile_rows» .entry)) (now («slice_map» .entry)) (now («subpic_map» .entry)) (now («subpic_across» .entry)) in
+        let input = lumaInput layout (now («slice_params» .entry)) (now (bank .entry)) (now («ctb_params» .entry)) (now («ctb_list» .entry)) (now («fixed_filters» .entry)) (now («fixed_map» .entry)) (now (luma .entry))
+        (length (now (output .entry))) in
+        Ran lumaOf input r (now (output .entry)) (now (output .exit))) ⌝ }
+{
+    number(alf::luma(
+        Picture {
+            width: width,
+            height: height,
+            ctb_log2: ctb_log2,
+            bit_depth: bit_depth,
+            chroma_format: chroma_format,
+            slice_count: slice_count,
+            across_tiles: across_tiles,
+            across_slices: across_slices,
+        },
+        virtual_columns,
+        virtual_rows,
+        tile_columns,
+        tile_rows,
+        slice_map,
+        subpic_map,
+        subpic_across,
+        slice_params,
+        bank,
+        ctb_params,
+        ctb_list,
+        fixed_filters,
+        fixed_map,
+        luma,
+        output,
+    ))
+}
