@@ -35,8 +35,27 @@ counted() {
     fi
 }
 
+# The layout of the Rust sources, without a network or a registry.
+host_layout() { (cd host && cargo fmt --check --quiet); }
+
+# What the demo prints is stored; it also fails by itself where the library does not do what it promises.
+demo() {
+    (cd host && cargo build --quiet --release --offline -p demo) && target/cargo/release/demo --out target/demo > "$log" && diff host/demo/stdout "$log" &&
+        echo "  $(ls target/demo | wc -l) pictures"
+}
+
+# The benchmark's C gives the same classes and samples as the library, on small pictures; nothing is timed here.
+bench_agrees() { (cd host && cargo build --quiet --release --offline -p bench) && target/cargo/release/bench --check; }
+
 single "layout of the sources" rt fmt --check
+single "layout of the host's sources" host_layout
 counted "proofs, must-fail edits and programs" rt ci
+single "the static library" scripts/lib.sh
+counted "the C interface from C" scripts/c-tests.sh
+counted "the library beside the model" scripts/host-tests.sh
+single "arbitrary arguments, short" scripts/fuzz.sh 200000
+single "the demo" demo
+single "the library beside plain C" bench_agrees
 
 echo "$passed passed, $failed failed"
 [[ $failed -eq 0 && $passed -gt 0 ]]

@@ -1,0 +1,103 @@
+//! The tables that are printed.
+use crate::operations::{Operation, Side, SIDES};
+use crate::timing::Times;
+
+/// One line of the table.
+pub struct Line {
+    pub picture: String,
+    pub operation: Operation,
+    pub times: Times,
+}
+
+/// At most this share of a call goes into judging.
+const JUDGING_AIM: f64 = 0.10;
+
+impl Line {
+    /// How many times as long a side takes as the library.
+    fn ratio(&self, side: Side) -> f64 {
+        self.times.sides[side as usize] / self.times.sides[Side::Library as usize]
+    }
+
+    fn judging_share(&self) -> f64 {
+        self.times.judging / self.times.sides[Side::Library as usize]
+    }
+}
+
+/// The times, the aims, and what the numbers mean.
+pub fn print(lines: &[Line], calls: u32) {
+    println!("CPU: {}\n", cpu());
+    print_times(lines);
+    println!();
+    print_aims(lines);
+    println!(
+        "\nNanoseconds a sample of the plane that is filtered or classified; the quickest of {calls} calls, taking turns, each with the \
+         core's caches full of other data. Luma has its classes in it. A call of the library judges its input and copies with a margin as \
+         it goes; the C judges nothing, and its planes were padded beforehand, outside its time. Judging: a call that is rejected at the \
+         last test, and its share of a whole call. All outputs were equal."
+    );
+}
+
+fn print_times(lines: &[Line]) {
+    let [library, c, native] = SIDES.map(Side::name);
+    println!("| picture | operation | {library} | {c} | {native} | {c} / library | native / library | judging | share |");
+    println!("|---|---|---|---|---|---|---|---|---|");
+    for line in lines {
+        let [library, c, native] = line.times.sides;
+        println!(
+            "| {} | {} | {library:.2} | {c:.2} | {native:.2} | {:.2} | {:.2} | {:.3} | {:.1}% |",
+            line.picture,
+            line.operation.name(),
+            line.ratio(Side::C),
+            line.ratio(Side::CNative),
+            line.times.judging,
+            100.0 * line.judging_share()
+        );
+    }
+}
+
+/// An aim is met where it is on every picture.
+fn print_aims(lines: &[Line]) {
+    println!("| aim | least to most | |");
+    println!("|---|---|---|");
+    for (operation, aim) in [
+        (Operation::Luma, 4.0),
+        (Operation::Chroma(0), 2.0),
+        (Operation::CrossComponent(0), 2.0),
+        (Operation::Classes, 1.0),
+    ] {
+        let of_it = lines.iter().filter(|line| line.operation == operation);
+        let (least, most) = range(of_it.map(|line| line.ratio(Side::C)));
+        println!(
+            "| {}: {} / library at least {aim} | {least:.2} to {most:.2} | {} |",
+            operation.name(),
+            Side::C.name(),
+            verdict(least >= aim)
+        );
+    }
+    let (least, most) = range(lines.iter().map(Line::judging_share));
+    let (least, most, aim) = (100.0 * least, 100.0 * most, 100.0 * JUDGING_AIM);
+    println!(
+        "| judging: at most {aim}% of a call | {least:.1}% to {most:.1}% | {} |",
+        verdict(most <= aim)
+    );
+}
+
+fn range(numbers: impl Iterator<Item = f64>) -> (f64, f64) {
+    numbers.fold((f64::INFINITY, 0.0), |(least, most): (f64, f64), number| {
+        (least.min(number), most.max(number))
+    })
+}
+
+fn verdict(met: bool) -> &'static str {
+    if met {
+        "met"
+    } else {
+        "missed"
+    }
+}
+
+fn cpu() -> String {
+    let info = std::fs::read_to_string("/proc/cpuinfo").unwrap_or_default();
+    let model = info.lines().find_map(|line| line.strip_prefix("model name")?.split_once(':'));
+    model.map_or("unknown".into(), |(_, name)| name.trim().into())
+}

@@ -1,0 +1,11 @@
+//! Holds the proved library against the independent model: random pictures, damaged input, memory that ends at an inaccessible page.
+pub mod coverage;
+pub mod damage;
+pub mod guarded;
+pub mod input;
+pub mod layout;
+pub mod picture;
+pub mod random;
+pub mod region;
+pub mod run;
+pub mod seeds;

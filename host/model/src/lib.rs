@@ -1,0 +1,26 @@
+//! A plain model of the adaptive loop filter of H.266, clause 8.8.5.
+//!
+//! It serves to test a faster implementation. Each sample is worked out alone:
+//! its clip positions, the padded position of each neighbour and the sum are found
+//! afresh, in the order in which the clause tells it. The scope paper, cited as "01",
+//! decides wherever it speaks; equation and table numbers are those of H.266.
+//!
+//! Every operation first judges what it is given. It returns the number of the
+//! lowest cause of 01's table that applies and then leaves its output alone,
+//! or it returns 0 and fills its output.
+
+mod classes;
+mod edges;
+mod filters;
+mod judge;
+mod layout;
+mod region;
+mod taps;
+
+#[cfg(test)]
+mod tests;
+
+pub use classes::classes;
+pub use filters::{chroma, cross_component, luma};
+pub use layout::{FixedTables, Layout, Parameters};
+pub use region::isolated;

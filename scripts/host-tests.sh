@@ -1,0 +1,13 @@
+#!/usr/bin/env bash
+# The Rust tests. ALF_SEED and ALF_CASES choose the random input (host/compare/src/seeds.rs). The last line is 'N passed, M failed'.
+set -u -o pipefail
+cd "$(dirname "$0")/../host" || exit 2
+log=$(mktemp)
+trap 'rm -f "$log"' EXIT
+cargo test --workspace --offline --no-fail-fast -- --nocapture 2>&1 | tee "$log" | grep --line-buffered -vE '^(running|$)'
+status=${PIPESTATUS[0]}
+read -r passed failed < <(awk '/^test result:/ { p += $4; f += $6 } END { print p + 0, f + 0 }' "$log")
+# a program that crashes or does not compile counts nothing for itself
+if [[ $status -ne 0 && $failed -eq 0 ]]; then failed=1; fi
+echo "$passed passed, $failed failed"
+[[ $failed -eq 0 && $passed -gt 0 ]]
