@@ -5,10 +5,10 @@
  *   sides. There are no switches and no virtual boundaries.
  * - A CTB at a time. Its classes first, in the shape of the reference decoder: second differences once for each cell of 2 by 2 samples,
  *   summed along a row of cells for each block, then over rows of cells.
- * - Luma in blocks of 4 by 4: the block's class picks coefficients and clips, its transpose their order, and then each tap runs over the
- *   four samples of a row. Chroma and cross-component have one filter for a CTB and run over its rows.
- * - Arithmetic is in int, as decoders have it. With differences and clips in 16 bits, as the library has them, gcc 12 at -O3 made chroma
- *   about three times and cross-component one and a half times as quick as here; luma got no quicker.
+ * - Then blocks of 4 by 4. For luma the block's class picks coefficients and clips, its transpose their order, and each tap runs over the
+ *   four samples of a row. Chroma and cross-component have one filter for a CTB, so they can also go by whole rows of it: BLOCK says which.
+ * - Arithmetic is in int, as decoders have it. With differences and clips in 16 bits, as the library has them, gcc 12 at -O3 made whole rows
+ *   of chroma about three times and of cross-component one and a half times as quick as here; luma got no quicker.
  *
  * The taps of a block are spelled one after the other, each over four samples, because gcc makes vector code of that where the machine has
  * 32-bit minima (-march=native); with all taps of one sample after the other, luma stays scalar there too.
@@ -23,6 +23,12 @@
 #define JOIN(name, variant) name##_##variant
 #define WITH_VARIANT(name, variant) JOIN(name, variant)
 #define NAME(name) WITH_VARIANT(baseline_##name, VARIANT)
+
+/* The side of a block of chroma and cross-component: 4, or 0 for whole rows of a CTB. */
+#ifndef BLOCK
+#define BLOCK 4
+#endif
+#define LINES (BLOCK ? BLOCK : 1)
 
 enum { MAX_BLOCKS = 128 / 4, MAX_CELLS = 128 / 2 + 2, APS = 752, CLASSES = 25 };
 
@@ -308,8 +314,8 @@ static inline int tap(const uint16_t *p, ptrdiff_t away, int coeff, int clip)
     return coeff * (clipped(clip, p[away] - p[0]) + clipped(clip, p[-away] - p[0]));
 }
 
-/* A CTB's row; f has six coefficients and six clips. */
-static void chroma_row(const uint16_t *restrict p, int count, struct rows at, const int16_t *restrict f, int max, uint16_t *restrict out)
+/* A row of a CTB; f has six coefficients and six clips. */
+static inline void chroma_row(const uint16_t *restrict p, int count, struct rows at, const int16_t *restrict f, int max, uint16_t *restrict out)
 {
     int f0 = f[0], f1 = f[1], f2 = f[2], f3 = f[3], f4 = f[4], f5 = f[5];
     int c0 = f[6], c1 = f[7], c2 = f[8], c3 = f[9], c4 = f[10], c5 = f[11];
@@ -320,20 +326,49 @@ static void chroma_row(const uint16_t *restrict p, int count, struct rows at, co
     }
 }
 
+/* Four samples of a block's row, tap by tap as in luma. */
+static inline void chroma_four(const uint16_t *restrict p, const struct rows *at, const int16_t *restrict f, int max, uint16_t *restrict out)
+{
+    int sum[4] = {64, 64, 64, 64};
+    add_tap(sum, p, at->two, f[0], f[6]);
+    add_tap(sum, p, at->one + 1, f[1], f[7]);
+    add_tap(sum, p, at->one, f[2], f[8]);
+    add_tap(sum, p, at->one - 1, f[3], f[9]);
+    add_tap(sum, p, 2, f[4], f[10]);
+    add_tap(sum, p, 1, f[5], f[11]);
+    for (int i = 0; i < 4; i++)
+        out[i] = clamp(0, max, p[i] + (sum[i] >> at->shift));
+}
+
+/* A CTB, block by block; blocks fit, since its sides are multiples of 4 also where the picture cuts it. */
+static void chroma_ctb(const struct area *a, const struct plane *chroma, const int16_t *f, int max, uint16_t *restrict output, int width)
+{
+    int count = BLOCK ? BLOCK : a->width;
+    for (int y = 0; y < a->height; y += LINES) {
+        struct rows at[LINES];
+        for (int r = 0; r < LINES; r++)
+            at[r] = chroma_rows(a, y + r, chroma->stride);
+        const uint16_t *p = sample_at(chroma, a->x, a->y + y);
+        uint16_t *out = output + (ptrdiff_t)(a->y + y) * width + a->x;
+        for (int x = 0; x < a->width; x += count)
+            for (int r = 0; r < LINES; r++)
+                if (BLOCK)
+                    chroma_four(p + r * chroma->stride + x, &at[r], f, max, out + r * width + x);
+                else
+                    chroma_row(p, count, at[r], f, max, out);
+    }
+}
+
 void NAME(chroma)(const struct input *in, int32_t component, const struct plane *chroma, uint16_t *restrict output)
 {
     int width = in->width / 2, max = (1 << in->bit_depth) - 1;
     for (int address = 0; address < ctb_count(in); address++) {
         struct area a = area_of(in, address, 1);
         const uint8_t *params = in->ctb_params + 8 * address;
-        if (!params[1 + component]) {
+        if (params[1 + component])
+            chroma_ctb(&a, chroma, in->bank + APS * slice_of(in, address)[8] + 600 + 12 * params[4 + component], max, output, width);
+        else
             copy_area(&a, chroma, output, width);
-            continue;
-        }
-        const int16_t *f = in->bank + APS * slice_of(in, address)[8] + 600 + 12 * params[4 + component];
-        for (int y = 0; y < a.height; y++)
-            chroma_row(sample_at(chroma, a.x, a.y + y), a.width, chroma_rows(&a, y, chroma->stride), f, max,
-                       output + (ptrdiff_t)(a.y + y) * width + a.x);
     }
 }
 
@@ -352,8 +387,8 @@ static struct rows cross_rows(const struct area *a, int y, ptrdiff_t stride)
     }
 }
 
-/* A CTB's row of chroma, q, from luma, p, which has two columns for each of chroma's. */
-static void cross_row(const uint16_t *restrict p, const uint16_t *restrict q, int count, struct rows at, const int16_t *restrict f,
+/* A row of a CTB's chroma, q, from luma, p, which has two columns for each of chroma's. */
+static inline void cross_row(const uint16_t *restrict p, const uint16_t *restrict q, int count, struct rows at, const int16_t *restrict f,
                       int bit_depth, uint16_t *restrict out)
 {
     const uint16_t *restrict above = p - at.one, *restrict below = p + at.one, *restrict second = p + at.two;
@@ -367,6 +402,49 @@ static void cross_row(const uint16_t *restrict p, const uint16_t *restrict q, in
     }
 }
 
+/* Adds a tap to the sums of four samples: luma at `away` from each sample's own. */
+static inline void add_cross_tap(int sum[4], const uint16_t *restrict p, ptrdiff_t away, int coeff)
+{
+    for (int i = 0; i < 4; i++)
+        sum[i] += coeff * (p[2 * i + away] - p[2 * i]);
+}
+
+/* Four samples of a block's row. */
+static inline void cross_four(const uint16_t *restrict p, const uint16_t *restrict q, const struct rows *at, const int16_t *restrict f,
+                              int bit_depth, uint16_t *restrict out)
+{
+    int half = 1 << (bit_depth - 1), max = (1 << bit_depth) - 1;
+    int sum[4] = {64, 64, 64, 64};
+    add_cross_tap(sum, p, -at->one, f[0]);
+    add_cross_tap(sum, p, -1, f[1]);
+    add_cross_tap(sum, p, 1, f[2]);
+    add_cross_tap(sum, p, at->one - 1, f[3]);
+    add_cross_tap(sum, p, at->one, f[4]);
+    add_cross_tap(sum, p, at->one + 1, f[5]);
+    add_cross_tap(sum, p, at->two, f[6]);
+    for (int i = 0; i < 4; i++)
+        out[i] = clamp(0, max, q[i] + clamp(-half, half - 1, sum[i] >> 7));
+}
+
+static void cross_ctb(const struct area *a, const struct plane *luma, const struct plane *chroma, const int16_t *f, int bit_depth,
+                      uint16_t *restrict output, int width)
+{
+    int count = BLOCK ? BLOCK : a->width;
+    for (int y = 0; y < a->height; y += LINES) {
+        struct rows at[LINES];
+        for (int r = 0; r < LINES; r++)
+            at[r] = cross_rows(a, y + r, luma->stride);
+        const uint16_t *p = sample_at(luma, 2 * a->x, 2 * (a->y + y)), *q = sample_at(chroma, a->x, a->y + y);
+        uint16_t *out = output + (ptrdiff_t)(a->y + y) * width + a->x;
+        for (int x = 0; x < a->width; x += count)
+            for (int r = 0; r < LINES; r++)
+                if (BLOCK)
+                    cross_four(p + 2 * r * luma->stride + 2 * x, q + r * chroma->stride + x, &at[r], f, bit_depth, out + r * width + x);
+                else
+                    cross_row(p, q, count, at[r], f, bit_depth, out);
+    }
+}
+
 /* The chroma plane needs no margin: each sample is corrected from luma alone. */
 void NAME(cross_component)(const struct input *in, int32_t component, const struct plane *luma, const struct plane *chroma,
                            uint16_t *restrict output)
@@ -375,13 +453,10 @@ void NAME(cross_component)(const struct input *in, int32_t component, const stru
     for (int address = 0; address < ctb_count(in); address++) {
         struct area a = area_of(in, address, 1);
         int index = in->ctb_params[8 * address + 6 + component];
-        if (!index) {
-            copy_area(&a, chroma, output, width);
-            continue;
-        }
         const int16_t *f = in->bank + APS * slice_of(in, address)[9 + component] + 696 + 28 * component + 7 * (index - 1);
-        for (int y = 0; y < a.height; y++)
-            cross_row(sample_at(luma, 2 * a.x, 2 * (a.y + y)), sample_at(chroma, a.x, a.y + y), a.width, cross_rows(&a, y, luma->stride), f,
-                      in->bit_depth, output + (ptrdiff_t)(a.y + y) * width + a.x);
+        if (index)
+            cross_ctb(&a, luma, chroma, f, in->bit_depth, output, width);
+        else
+            copy_area(&a, chroma, output, width);
     }
 }

@@ -1,9 +1,9 @@
-//! Compiles baseline.c twice, for any machine of the architecture and for this one, and links both.
+//! Compiles baseline.c three times, and links all: for any machine of the architecture, by blocks and by rows, and for this machine.
 use std::path::{Path, PathBuf};
 use std::process::Command;
 
 /// The name that tells the functions of a build apart, and its options beside -O3.
-const VARIANTS: [(&str, &[&str]); 2] = [("o3", &[]), ("native", &["-march=native"])];
+const VARIANTS: [(&str, &[&str]); 3] = [("o3", &[]), ("rows", &["-DBLOCK=0"]), ("native", &["-march=native"])];
 
 fn main() {
     println!("cargo:rerun-if-changed=build.rs");

@@ -1,4 +1,4 @@
-//! The C of baseline.c, in its two builds. All unsafe code of the benchmark stands here.
+//! The C of baseline.c, in its three builds. All unsafe code of the benchmark stands here.
 use crate::case::Case;
 use crate::operations::{Operation, Output};
 use crate::padded::Padded;
@@ -63,6 +63,13 @@ build!(
     baseline_luma_o3,
     baseline_chroma_o3,
     baseline_cross_component_o3
+);
+build!(
+    ROWS,
+    baseline_classes_rows,
+    baseline_luma_rows,
+    baseline_chroma_rows,
+    baseline_cross_component_rows
 );
 build!(
     NATIVE,

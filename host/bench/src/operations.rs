@@ -1,5 +1,5 @@
 //! The four operations that are measured, and who does them.
-use crate::baseline::{NATIVE, O3};
+use crate::baseline::{NATIVE, O3, ROWS};
 use crate::case::Case;
 use raspbegonia::Fault;
 
@@ -17,10 +17,11 @@ pub enum Operation {
 pub enum Side {
     Library,
     C,
+    CRows,
     CNative,
 }
 
-pub const SIDES: [Side; 3] = [Side::Library, Side::C, Side::CNative];
+pub const SIDES: [Side; 4] = [Side::Library, Side::C, Side::CRows, Side::CNative];
 
 /// Of classes the map is written, of the filters the plane; the other is empty.
 pub struct Output {
@@ -98,7 +99,8 @@ impl Side {
         match self {
             Side::Library => "proved library",
             Side::C => "C -O3",
-            Side::CNative => "C -O3 -march=native",
+            Side::CRows => "by rows",
+            Side::CNative => "native",
         }
     }
 
@@ -111,6 +113,7 @@ impl Side {
                     .map_err(|fault| format!("{}: the library rejected it: {fault}", operation.name()))
             }
             Side::C => O3.run(case, output),
+            Side::CRows => ROWS.run(case, output),
             Side::CNative => NATIVE.run(case, output),
         }
         Ok(())

@@ -1,8 +1,8 @@
 //! The command line.
 
 pub const HELP: &str = "\
-Measures the proved library beside plain C (gcc -O3, and gcc -O3 -march=native) and prints markdown tables.
-All three get the same pictures, and their outputs must be equal; exit status 1 where they are not.
+Measures the proved library beside plain C (gcc -O3, by blocks and by rows, and gcc -O3 -march=native) and prints
+markdown tables. All get the same pictures, and their outputs must be equal; exit status 1 where they are not.
 
   --size WxH   a picture's size, multiples of 8 from 8 to 4096; may be repeated  (1920x1080 and 4096x2160)
   --depth B    bit depth, 8 to 12; may be repeated                               (8 and 10)

@@ -7,7 +7,7 @@ use std::time::Instant;
 /// The quickest calls, in nanoseconds a sample of the plane that is filtered or classified.
 pub struct Times {
     /// By side, in the order of `SIDES`.
-    pub sides: [f64; 3],
+    pub sides: [f64; 4],
     pub judging: f64,
 }
 
@@ -19,7 +19,7 @@ pub fn measure(operation: Operation, case: &Case, calls: u32) -> Result<Times, S
     let mut outputs = SIDES.map(|_| Output::new(operation, case));
     let mut kept = Output::new(operation, case);
     let other_data = vec![1; OTHER_DATA];
-    let (mut sides, mut judging) = ([f64::INFINITY; 3], f64::INFINITY);
+    let (mut sides, mut judging) = ([f64::INFINITY; 4], f64::INFINITY);
     for _ in 0..calls {
         for (n, side) in SIDES.into_iter().enumerate() {
             sides[n] = sides[n].min(nanoseconds(&other_data, || side.run(case, &mut outputs[n]))?);
@@ -42,7 +42,7 @@ fn nanoseconds(other_data: &[u8], call: impl FnOnce() -> Result<(), String>) -> 
 }
 
 /// Holds the outputs of the C, in the order of `SIDES`, against the library's.
-pub fn compare(outputs: &[Output; 3], case: &Case) -> Result<(), String> {
+pub fn compare(outputs: &[Output; 4], case: &Case) -> Result<(), String> {
     for (side, output) in SIDES.into_iter().zip(outputs).skip(1) {
         if let Some((place, library, c)) = outputs[0].first_difference(output) {
             let name = output.operation.name();

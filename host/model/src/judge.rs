@@ -185,7 +185,8 @@ fn bad_subpic_corner(corner: [u8; 4]) -> bool {
 
 /// 10: slice parameters and CTB parameters.
 fn parameters(layout: &Layout, given: &Given) -> bool {
-    given.parameters
+    given
+        .parameters
         .is_some_and(|parameters| parameters.slice_params.chunks(11).any(bad_slice_params) || any_bad_ctb_params(layout, parameters))
 }
 
@@ -255,7 +256,8 @@ fn samples(layout: &Layout, given: &Given) -> bool {
 
 /// 13: listed addresses lie below the count of CTBs.
 fn addresses(layout: &Layout, given: &Given) -> bool {
-    given.parameters
+    given
+        .parameters
         .is_some_and(|parameters| parameters.ctb_list.iter().any(|&address| i64::from(address) >= layout.ctb_count()))
 }
 

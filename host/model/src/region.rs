@@ -53,7 +53,8 @@ fn leaks(layout: &Layout, region: &[u8], x: i64, y: i64) -> bool {
     false
 }
 
-/// Closed steps: a side step, or a diagonal one with its two side steps from the same sample.
+/// Whether a step is closed: a side step, or a diagonal one with its two side steps from
+/// the same sample.
 pub(crate) fn step_closed(layout: &Layout, from: (i64, i64), dx: i64, dy: i64) -> bool {
     if dx == 0 || dy == 0 {
         return side_step_closed(layout, from, dx, dy);
