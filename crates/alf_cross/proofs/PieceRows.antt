@@ -1,5 +1,5 @@
 -- A row of chroma samples of a piece: where its taps lie in the copy, and that they are those of Table 47. Assumes nothing.
-use mathlib.Core.Path.{_≡_, ap}
+use mathlib.Core.Path.{_≡_, refl, ap}
 use mathlib.Core.Bool.{Bool, true, false, _&&_, _||_, cond}
 use mathlib.Core.List.{List, [], _∷_, map}
 use Prim.Native.Nat.{ℕ, _+_, _-_, _*_, _/_, _%_, _≤_, _<_}
@@ -19,8 +19,9 @@ use Rattle.alf_pieces.specs.Regions.{between}
 use Rattle.alf_pieces.specs.Pieces.{BlockPiece}
 use Rattle.alf_pieces.specs.Copies.{extent, pitch}
 use Rattle.alf_pieces.proofs.Regions.{run-facts, row-of}
-use Rattle.alf_cross.specs.Taps.{rowPlace, seven, RowReads, copyTaps, copySum, rowSample, offsetSample}
-use Rattle.alf_cross.specs.Work.{SmallCopy, rowOffsets, copyRead, pieceSum, copyCrossAt}
+use Rattle.alf_cross.specs.Taps.{last, splitPlace, seven, RowReads, splitTaps, splitSum, rowSample, offsetSample}
+use Rattle.alf_cross.specs.Work.{SmallCopy, rowOffsets, splitRead, pieceSum, splitCrossAt}
+use Rattle.alf_cross.proofs.SplitColumns.{place-next}
 
 -- ---- a piece of whole blocks, in the samples of a plane with this ratio to luma
 
@@ -59,47 +60,58 @@ near line d = pick (line && (eqb d 5 || eqb d 4)) (line && (eqb d 6 || eqb d 3))
     pick false false = omega arith
 
 -- they lie in the copy, which has so many rows, where the sample is in row j
-pub row-reads : {copy : List ℕ} {r : CrossRows} (j pitch rows end : ℕ) → Near r → SmallCopy copy (rows * pitch) → j + 2 < rows → end + 2 < pitch
-    → RowReads copy pitch j r end
+pub row-reads : {split : List ℕ} {r : CrossRows} (j pitch rows end : ℕ) → Near r → SmallCopy split (rows * pitch) → j + 2 < rows → end < pitch
+    → RowReads split pitch j r end
 row-reads {r = r} j pitch rows end near held inside within =
     let up : (j - r .y1) * pitch ≤ (j + r .y2) * pitch = mul-le-mul-right pitch (omega arith) in
     let here : j * pitch ≤ (j + r .y2) * pitch = mul-le-mul-right pitch (omega arith) in
     let down : (j + r .y1) * pitch ≤ (j + r .y2) * pitch = mul-le-mul-right pitch (omega (arith, near .order)) in
     let all : (j + r .y2 + 1) * pitch ≤ rows * pitch = mul-le-mul-right pitch (omega (arith, near .below)) in
     record {
-      aboveFirst = omega arith;
-      hereFirst = omega arith;
-      belowFirst = omega arith;
+      aboveFirst = up;
+      hereFirst = here;
+      belowFirst = down;
       room = omega (arith, held .room);
       small = λ k h. held .small k (omega arith);
     }
 
+-- and the columns of a piece's samples in its rows
+pub columns-fit : {n : ℕ} {p : Piece} (ratio : ℕ) → Ratio ratio → BlockPiece n p
+    → extent p / ratio + last (splitPlace (pitch p) ratio 2) (splitPlace (pitch p) ratio 3) (splitPlace (pitch p) ratio 4) < pitch p
+unfolding splitPlace
+columns-fit _ whole B = omega arith
+columns-fit _ half B = omega arith
+
 -- ---- what the taps read
 
--- of the sample at place `at` of its row, in row j of the copy
-module _ (copy : List ℕ) (columns : Piece) (r : CrossRows) (j at : ℕ) where
-  -- the sample in column u of row q
-  sample : (q i u : ℕ) → at + i + 2 ≡ u → getD copy (q * pitch columns + 2 + at + i) 0 ≡ copyRead copy columns (u, q)
-  sample q i u e = ap (λ (n : ℕ). getD copy n 0) (omega arith)
+-- of the x-th sample of its row, in row j of the copy
+module _ (split : List ℕ) (columns : Piece) (step : ℕ) (ratio : Ratio step) (r : CrossRows) (j x : ℕ) where
+  -- the sample in column u of row q, which is column c of the first
+  sample : (q c u : ℕ) → step * x + c ≡ u
+      → getD split (q * pitch columns + x + splitPlace (pitch columns) step c) 0 ≡ splitRead split columns step (u, q)
+  sample q c u e = rw (← e) (ap (λ (n : ℕ). getD split n 0) (omega (arith, place-next step ratio (pitch columns) x c)))
 
-  taps-same : copyTaps copy (rowPlace (pitch columns) (j - r .y1)) (rowPlace (pitch columns) j)
-      (rowPlace (pitch columns) (j + r .y1)) (rowPlace (pitch columns) (j + r .y2)) at
-      ≡ map (copyRead copy columns) (crossTaps (at + 3) j r)
-  unfolding copyTaps crossTaps
-  taps-same = λ t.
-      sample (j - r .y1) 1 (at + 3) (omega arith) t
-      ∷ sample j 0 (at + 3 - 1) (omega arith) t ∷ sample j 2 (at + 3 + 1) (omega arith) t
-      ∷ sample (j + r .y1) 0 (at + 3 - 1) (omega arith) t ∷ sample (j + r .y1) 1 (at + 3) (omega arith) t
-      ∷ sample (j + r .y1) 2 (at + 3 + 1) (omega arith) t
-      ∷ sample (j + r .y2) 1 (at + 3) (omega arith) t
+  -- the rows that are read, and the columns, by where they begin
+  taps-same : splitTaps split ((j - r .y1) * pitch columns) (j * pitch columns) ((j + r .y1) * pitch columns) ((j + r .y2) * pitch columns)
+      (splitPlace (pitch columns) step 2) (splitPlace (pitch columns) step 3) (splitPlace (pitch columns) step 4) x
+      ≡ map (splitRead split columns step) (crossTaps (step * x + 3) j r)
+  unfolding splitTaps crossTaps
+  taps-same =
+      let left : step * x + 2 ≡ step * x + 3 - 1 = omega arith in
+      let right : step * x + 4 ≡ step * x + 3 + 1 = omega arith in
+      λ t.
+      sample (j - r .y1) 3 _ refl t
+      ∷ sample j 2 _ left t ∷ sample j 4 _ right t
+      ∷ sample (j + r .y1) 2 _ left t ∷ sample (j + r .y1) 3 _ refl t ∷ sample (j + r .y1) 4 _ right t
+      ∷ sample (j + r .y2) 3 _ refl t
       ∷ []
 
   pub sum-same : (filters : List ℤ)
-      → copySum copy (rowPlace (pitch columns) (j - r .y1)) (rowPlace (pitch columns) j)
-      (rowPlace (pitch columns) (j + r .y1)) (rowPlace (pitch columns) (j + r .y2)) (seven filters) at
-      ≡ pieceSum copy columns filters r (at + 3) j
-  unfolding copySum pieceSum crossSum sumBelowℤ
-  sum-same filters = λ t. crossSum (sample j 1 (at + 3) (omega arith) t) (λ n. getD filters n (pos 0)) (taps-same t)
+      → splitSum split ((j - r .y1) * pitch columns) (j * pitch columns) ((j + r .y1) * pitch columns) ((j + r .y2) * pitch columns)
+      (splitPlace (pitch columns) step 2) (splitPlace (pitch columns) step 3) (splitPlace (pitch columns) step 4) (seven filters) x
+      ≡ pieceSum split columns step filters r (step * x + 3) j
+  unfolding splitSum pieceSum crossSum sumBelowℤ
+  sum-same filters = λ t. crossSum (sample j 3 _ refl t) (λ n. getD filters n (pos 0)) (taps-same t)
 
 -- ---- a row of a piece
 
@@ -119,14 +131,14 @@ module _ (p : Picture) {columns rows : Piece} (across : BlockPiece (p .width) co
       mul-le-mul-right (p .width / subWidth p) (omega (arith, r .upto)) in
       omega (arith, c .last, c .upto)
 
-  -- and are those of the copy
-  pub row-value : (ctb : ℕ) (filters : List ℤ) (copy chroma : List ℕ) (r : CrossRows) → r ≡ rowOffsets (p .height) ctb (v * subHeight p) → (k : ℕ)
+  -- and are those of the split copy
+  pub row-value : (ctb : ℕ) (filters : List ℤ) (split chroma : List ℕ) (r : CrossRows) → r ≡ rowOffsets (p .height) ctb (v * subHeight p) → (k : ℕ)
       → let from = v * (p .width / subWidth p) + columns .start / subWidth p in
       between from (extent columns / subWidth p) k ≡ true
-      → offsetSample copy (pitch columns) (v * subHeight p - rows .start + 3) r filters (p .«bit_depth») (subWidth p) chroma from k
-      ≡ copyCrossAt p ctb filters copy chroma columns rows k
-  unfolding rowSample copyCrossAt
-  row-value ctb filters copy chroma r is k t =
+      → offsetSample split (pitch columns) (v * subHeight p - rows .start + 3) r (subWidth p) filters (p .«bit_depth») chroma from k
+      ≡ splitCrossAt p ctb filters split chroma columns rows k
+  unfolding rowSample splitCrossAt
+  row-value ctb filters split chroma r is k t =
       let from = v * (p .width / subWidth p) + columns .start / subWidth p in
       let c = own (subWidth p) (chroma-ratios p .0) across in
       let f = run-facts from (extent columns / subWidth p) k t in
@@ -134,4 +146,4 @@ module _ (p : Picture) {columns rows : Piece} (across : BlockPiece (p .width) co
       let x : k % (p .width / subWidth p) ≡ columns .start / subWidth p + (k - from) = omega arith in
       let column : (columns .start / subWidth p + (k - from)) * subWidth p - columns .start + 3 ≡ subWidth p * (k - from) + 3 = omega (arith, c .start) in
       rw (e .0, ← is, x, column) (ap (corrected (p .«bit_depth») (getD chroma k 0))
-      (sum-same copy columns r (v * subHeight p - rows .start + 3) (subWidth p * (k - from)) filters))
+      (sum-same split columns (subWidth p) (chroma-ratios p .0) r (v * subHeight p - rows .start + 3) (k - from) filters))

@@ -32,7 +32,8 @@ use Rattle.alf_pieces.proofs.Regions.{Inside, rect-facts}
 use Rattle.alf_pieces.proofs.CtbPieces.{column-facts, row-facts}
 use Rattle.alf_pieces.proofs.CopyHolds.{copy-holds}
 use Rattle.alf_pieces.proofs.CopySamples.{luma-in}
-use Rattle.alf_cross.specs.Work.{CrossFilter, rowOffsets, copyRead, pieceSum, copyCrossAt}
+use Rattle.alf_cross.specs.Taps.{Split}
+use Rattle.alf_cross.specs.Work.{CrossFilter, rowOffsets, splitRead, pieceSum, splitCrossAt}
 use Rattle.alf_cross.proofs.PieceRows.{Near, near}
 
 -- ---- sums
@@ -49,33 +50,35 @@ offsets-same : (l : Layout) (y : ℕ)
 unfolding planeOf lineRule bottomDistance
 offsets-same l y = simp (mul-one, div-one)
 
--- ---- a piece of the CTB c and its copy, as `copy_piece` leaves it
+-- ---- a piece of the CTB c, its copy, as `copy_piece` leaves it, and its split copy
 
 module _ {i : Input} {p : Picture} {c : Ctb} {s : Sides} (ctb : CtbOf (i .layout) p c s) {g : Grid} (grid : GridOf p g)
     {component : ℕ} {filters : List ℤ} (filter : CrossFilter i c component filters) {columns rows : Piece}
     (across : PieceOf (lumaPlane (i .layout) .columns) (columnDisabled (i .layout) c) (c .column) columns)
-    (down : PieceOf (lumaPlane (i .layout) .rows) (rowDisabled (i .layout) c) (c .row) rows) (copy copy0 : List ℕ)
-    (copies : copy ≡ painted copy0 (between 0 (copyLength columns rows)) (copyAt columns rows s (i .luma) (p .width)))
-    (room : copyLength columns rows ≤ length copy0) where
+    (down : PieceOf (lumaPlane (i .layout) .rows) (rowDisabled (i .layout) c) (c .row) rows)
+    {luma chroma : List ℕ} (isLuma : i .luma ≡ luma) (isChroma : i .chroma ≡ chroma) (copy copy0 split : List ℕ)
+    (copies : copy ≡ painted copy0 (between 0 (copyLength columns rows)) (copyAt columns rows s luma (p .width)))
+    (room : copyLength columns rows ≤ length copy0) (isSplit : Split copy split (pitch columns) (subWidth p) (pitch rows)) where
   -- the sample whose luma position (x, y) lies in column m and row n of the piece
   module _ (x y m n : ℕ) (column : x ≡ columns .start + m) (row : y ≡ rows .start + n) (right : m < extent columns) (bottom : n < extent rows) where
     -- its neighbour at (u, v) stands in column a and row b of the copy
     read-same : (u v a b : ℕ) → (x ≤ u + 3) × (u ≤ x + 3) × (y ≤ v + 3) × (v ≤ y + 3)
         → (u ≡ columns .start + a - 3) × (v ≡ rows .start + b - 3) × (a < pitch columns) × (b < pitch rows)
-        → read (i .layout) (lumaPlane (i .layout)) x y (i .luma) u v ≡ copyRead copy columns (a, b)
+        → read (i .layout) (lumaPlane (i .layout)) x y (i .luma) u v ≡ splitRead split columns (subWidth (i .layout .picture)) (a, b)
     unfolding planeOf
     read-same u v a b near place =
         let wide : i .layout .picture .width / 1 ≡ p .width = rw (ctb .picture) (div-one (p .width)) in
-        copy-holds ctb 1 1 whole whole across down (i .luma) copy copy0 wide copies room x y u v a b
+        let split : Split copy split (pitch columns) (subWidth (i .layout .picture)) (pitch rows) = rw (ctb .picture) isSplit in
+        copy-holds ctb 1 1 whole whole across down (i .luma) copy copy0 wide (rw (← isLuma) at copies) room x y u v a b
         (luma-in (lumaPlane (i .layout) .columns) columns x u refl (omega arith) (omega arith) (near .0) (near .1))
         (luma-in (lumaPlane (i .layout) .rows) rows y v refl (omega arith) (omega arith) (near .2) (near .3))
-        (place .0) (place .1) (place .2) (place .3)
+        (place .0) (place .1) (place .2) (place .3) ∙ sym (split .row b (place .3) .same a (place .2))
 
     -- a neighbour
     abbrev reads : ℕ × ℕ → ℕ
     reads q = read (i .layout) (lumaPlane (i .layout)) x y (i .luma) (q .0) (q .1)
 
-    taps-same : (r : CrossRows) → Near r → map reads (crossTaps x y r) ≡ map (copyRead copy columns) (crossTaps (m + 3) (n + 3) r)
+    taps-same : (r : CrossRows) → Near r → map reads (crossTaps x y r) ≡ map (splitRead split columns (subWidth (i .layout .picture))) (crossTaps (m + 3) (n + 3) r)
     unfolding crossTaps
     taps-same r near =
         let up = near .above in
@@ -92,7 +95,7 @@ module _ {i : Input} {p : Picture} {c : Ctb} {s : Sides} (ctb : CtbOf (i .layout
         ∷ []
 
     sums-same : (r : CrossRows) → Near r
-        → pieceSum copy columns filters r (m + 3) (n + 3)
+        → pieceSum split columns (subWidth (i .layout .picture)) filters r (m + 3) (n + 3)
         ≡ crossSum (reads (x, y)) (crossCoeff i (crossAps i c component) component (crossIndex i c component - 1)) (map reads (crossTaps x y r))
     unfolding pieceSum
     sums-same r near =
@@ -117,8 +120,8 @@ module _ {i : Input} {p : Picture} {c : Ctb} {s : Sides} (ctb : CtbOf (i .layout
   pub sample-same : (k : ℕ)
       → inRect (p .width / subWidth p) (columns .start / subWidth p) (columns .end / subWidth p)
       (rows .start / subHeight p) (rows .end / subHeight p) k ≡ true
-      → copyCrossAt p (g .ctb) filters copy (i .chroma) columns rows k ≡ atIndex (chromaPlane (i .layout)) (crossSample i component) k
-  unfolding planeOf copyCrossAt atIndex crossSample crossWith
+      → splitCrossAt p (g .ctb) filters split chroma columns rows k ≡ atIndex (chromaPlane (i .layout)) (crossSample i component) k
+  unfolding planeOf splitCrossAt atIndex crossSample crossWith
   sample-same k t =
       let l = i .layout in
       let q = l .picture in
@@ -139,6 +142,6 @@ module _ {i : Input} {p : Picture} {c : Ctb} {s : Sides} (ctb : CtbOf (i .layout
       let column : x ≡ columns .start + m = omega arith in
       let row : y ≡ rows .start + n = omega arith in
       let own = own-ctb x y m n column row (omega arith) (omega arith) (k % W) (k / W) refl refl in
-      rw (grid .ctb, ← (ctb .picture), div-add-mod' k W, own, offsets-same l y)
+      rw (grid .ctb, ← isChroma, ← (ctb .picture), div-add-mod' k W, own, offsets-same l y)
       (ap (corrected (q .«bit_depth») (getD (i .chroma) k 0))
       (sums-same x y m n column row (omega arith) (omega arith) (rowOffsets (q .height) (ctbSize q) y) (near _ _)))

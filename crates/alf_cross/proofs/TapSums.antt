@@ -1,23 +1,47 @@
 -- A sum of taps, a tap at a time, and what its reads in the copy need. Assumes nothing.
 use mathlib.Core.Path.{_≡_, refl, _∙_}
+use mathlib.Core.Bool.{Bool, true, false, cond}
 use mathlib.Core.List.{List, [], _∷_, map}
-use Prim.Native.Nat.{ℕ, zero, suc, _+_, _*_, _^_, _≤_, _<_}
+use Prim.Native.Nat.{ℕ, zero, suc, _+_, _-_, _*_, _^_, _≤_, _<_}
 use native.Mathlib.Omega.{arith}
-use lib.IntN.{ℤ, pos, natAbs, _+ℤ_, _-ℤ_, _*ℤ_}
+use lib.Dec.{ltb}
+use lib.IntN.{ℤ, pos, negsuc, natAbs, _+ℤ_, _-ℤ_, _*ℤ_}
 use lib.ListN.{length, getD}
-use lib.Signed.{mag}
+use lib.Signed.{mag, shrZ}
 use mir.Facts.{toZ-ofZ}
 use mir.Syntax.{w16, w32}
 use mir.Val.{SFits, hbits, toZ, ofZ}
 use Rattle.alf_spec.specs.Lists.{sumBelowℤ}
+use Rattle.alf_spec.specs.Arithmetic.{rounded}
 use Rattle.alf_spec.proofs.Lists.{Each}
-use Rattle.alf_math.proofs.Magnitude.{fits-abs, returned}
+use Rattle.alf_math.proofs.Magnitude.{abs-add, abs-sub, fits-abs, returned}
 use Rattle.alf_cross.specs.Taps.{SmallTaps, Reads, seven}
+
+-- ---- how large a tap is, and a sum of taps after the shift
+
+-- two samples differ by at most the largest
+pub differ : (a b : ℕ) → a < 4096 → b < 4096 → natAbs (pos a -ℤ pos b) ≤ 4095
+differ a zero h l = omega (arith, abs-sub (pos a) (pos 0))
+differ a (suc b) h l = pick (ltb a (suc b))
+  where
+    pick : (t : Bool) → natAbs (cond t (negsuc (suc b - suc a)) (pos (a - suc b))) ≤ 4095
+    pick true = omega arith
+    pick false = omega arith
+
+shifted-small : (z : ℤ) → natAbs z ≤ 7 * (128 * 4095) + 64 → natAbs (shrZ z 128) ≤ 7 * 4096
+shifted-small (pos a) h = omega arith
+shifted-small (negsuc a) h = omega arith
+
+pub rounded-small : (sum : ℤ) → natAbs sum ≤ 7 * (128 * 4095) → natAbs (rounded 7 sum) ≤ 7 * 4096
+unfolding rounded
+rounded-small sum h = shifted-small (sum +ℤ pos 64) (omega (arith, abs-add sum (pos 64)))
+
+-- ---- a sum of taps
 
 -- z is the sum of the first n taps
 pub record Summed (tap : ℕ → ℤ) (n : ℕ) (z : ℤ) : Type 0 where
   pub is : z ≡ sumBelowℤ n tap
-  pub small : natAbs z ≤ n * 2 ^ 20
+  pub small : natAbs z ≤ n * (128 * 4095)
 
 pub summed-none : {tap : ℕ → ℤ} → Summed tap 0 (pos 0)
 unfolding sumBelowℤ
@@ -25,7 +49,7 @@ summed-none = record { is = refl; small = omega arith }
 
 -- one tap more, as code has it: r is what the call returned
 pub summed-more : {tap : ℕ → ℤ} {n : ℕ} {z r f : ℤ} (sample middle : ℕ) → Summed tap n z → SFits w16 f
-    → (r ≡ z +ℤ toZ w16 (ofZ w16 f) *ℤ (pos sample -ℤ pos middle)) × (natAbs r ≤ natAbs z + 2 ^ 20)
+    → (r ≡ z +ℤ toZ w16 (ofZ w16 f) *ℤ (pos sample -ℤ pos middle)) × (natAbs r ≤ natAbs z + 128 * 4095)
     → f *ℤ (pos sample -ℤ pos middle) ≡ tap n → mag r < 2 ^ hbits w32 → Summed tap (suc n) (toZ w32 (ofZ w32 r))
 unfolding sumBelowℤ
 summed-more {tap} {n} {z} {r} {f} sample middle s fits h e ok = record {
@@ -52,11 +76,11 @@ each-small (c ∷ f) h (suc j) = each-small f (h .1) j
 pub seven-small : (f : List ℤ) → ((j : ℕ) → natAbs (getD f j (pos 0)) ≤ 128) → SmallTaps (seven f)
 seven-small f h = record { each = each-small (seven f) (h 0, (h 1, (h 2, (h 3, (h 4, (h 5, (h 6, tt))))))) }
 
--- ---- places in the copy
+-- ---- places in the split copy
 
--- fewer columns are read
-pub reads-less : {copy : List ℕ} {above here below far end less : ℕ} → Reads copy above here below far end → less ≤ end
-    → Reads copy above here below far less
+-- fewer places of a row are read
+pub reads-less : {split : List ℕ} {above here below far end less : ℕ} → Reads split above here below far end → less ≤ end
+    → Reads split above here below far less
 reads-less r h = record {
   aboveFirst = r .aboveFirst;
   hereFirst = r .hereFirst;
@@ -65,15 +89,16 @@ reads-less r h = record {
   small = λ k l. r .small k (omega arith);
 }
 
--- what a call asks: its row begins no later than the last, and its column is one of three
-pub tap-ready : {copy : List ℕ} {above here below far : ℕ} {tap : ℕ → ℤ} {n : ℕ} {z f : ℤ} (row at i : ℕ) → Reads copy above here below far (at + 2)
-    → Summed tap n z → n ≤ 6 → SFits w16 f → natAbs f ≤ 128 → row ≤ far → i ≤ 2
-    → (natAbs z ≤ 2 ^ 30) × (getD copy (here + at + 1) 0 < 4096) × (row + at + i < length copy) × (getD copy (row + at + i) 0 < 4096)
-    × (natAbs (toZ w16 (ofZ w16 f)) ≤ 128)
-tap-ready {here = here} row at i r sum few fits coefficient first column = (
+-- what a call asks: its row begins no later than the last, and its column and the samples' own lie before the end
+pub tap-ready : {split : List ℕ} {above here below far end : ℕ} {tap : ℕ → ℤ} {n : ℕ} {z f : ℤ} (own row at column : ℕ)
+    → Reads split above here below far end → Summed tap n z → n ≤ 6 → SFits w16 f → natAbs f ≤ 128
+    → row ≤ far → (at + own ≤ end) × (at + column ≤ end)
+    → (natAbs z ≤ 2 ^ 30) × (getD split (here + at + own) 0 < 4096) × (row + at + column < length split)
+    × (getD split (row + at + column) 0 < 4096) × (natAbs (toZ w16 (ofZ w16 f)) ≤ 128)
+tap-ready {here = here} own row at column r sum few fits coefficient first within = (
   omega (arith, sum .small),
-  r .small (here + at + 1) (omega (arith, r .hereFirst)),
+  r .small (here + at + own) (omega (arith, r .hereFirst)),
   omega (arith, r .room),
-  r .small (row + at + i) (omega arith),
+  r .small (row + at + column) (omega arith),
   rw (toZ-ofZ fits) coefficient,
 )

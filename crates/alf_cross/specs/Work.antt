@@ -18,6 +18,7 @@ use Rattle.alf_math.specs.Grids.{GridOf}
 use Rattle.alf_boundary.specs.Clips.{axisOf}
 use Rattle.alf_pieces.specs.declared.pieces.Piece.{Piece}
 use Rattle.alf_pieces.specs.Copies.{pitch, area}
+use Rattle.alf_cross.specs.Taps.{splitPlace}
 
 -- an accepted picture and its grid, a chroma plane, the coefficients, and room for the plane that is written
 pub record ChromaWork (p : Picture) (g : Grid) (chroma : List ℕ) (filters : List ℤ) (output : ℕ) : Type 0 where
@@ -31,12 +32,13 @@ pub record ChromaWork (p : Picture) (g : Grid) (chroma : List ℕ) (filters : Li
   pub filterLength : 7 ≤ length filters
   pub coefficients : (j : ℕ) → natAbs (getD filters j (pos 0)) ≤ 128
 
--- and the picture's luma samples, and room for the copy of a piece
-pub record CrossWork (p : Picture) (g : Grid) (luma chroma : List ℕ) (filters : List ℤ) (copy output : ℕ) : Type 0 where
+-- and the picture's luma samples, and room for the copy of a piece and for the split copy
+pub record CrossWork (p : Picture) (g : Grid) (luma chroma : List ℕ) (filters : List ℤ) (copy split output : ℕ) : Type 0 where
   pub work : ChromaWork p g chroma filters output
   pub lumaLength : length luma ≡ p .width * p .height
   pub lumaSamples : (k : ℕ) → getD luma k 0 < 4096
   pub copyRoom : area ≤ copy
+  pub splitRoom : area ≤ split
 
 -- the first n entries of the copy are samples
 pub record SmallCopy (copy : List ℕ) (n : ℕ) : Type 0 where
@@ -52,19 +54,20 @@ pub record CrossFilter (i : Input) (c : Ctb) (component : ℕ) (filters : List �
 abbrev pub rowOffsets : ℕ → ℕ → ℕ → CrossRows
 rowOffsets height ctb y = crossRows (lineRule (axisOf height ctb [] true 1) y) (ctb - y % ctb)
 
--- the sample at column i and row j of the copy
-abbrev pub copyRead : List ℕ → Piece → ℕ × ℕ → ℕ
-copyRead copy columns place = getD copy (place .1 * pitch columns + place .0) 0
+-- the sample at column i and row j of the copy, from the split copy
+abbrev pub splitRead : List ℕ → Piece → ℕ → ℕ × ℕ → ℕ
+splitRead split columns step place = getD split (place .1 * pitch columns + splitPlace (pitch columns) step (place .0)) 0
 
 -- (1533) of the sample at column i and row j of the copy
-unfoldable pub pieceSum : List ℕ → Piece → List ℤ → CrossRows → ℕ → ℕ → ℤ
-pieceSum copy columns filters r i j =
-    crossSum (copyRead copy columns (i, j)) (λ n. getD filters n (pos 0)) (map (copyRead copy columns) (crossTaps i j r))
+unfoldable pub pieceSum : List ℕ → Piece → ℕ → List ℤ → CrossRows → ℕ → ℕ → ℤ
+pieceSum split columns step filters r i j =
+    crossSum (splitRead split columns step (i, j)) (λ n. getD filters n (pos 0)) (map (splitRead split columns step) (crossTaps i j r))
 
--- the corrected sample at index k of the chroma plane, from the copy of the piece in which its luma position (x, y) lies; the margin has 3 samples
-unfoldable pub copyCrossAt : Picture → ℕ → List ℤ → List ℕ → List ℕ → Piece → Piece → ℕ → ℕ
-copyCrossAt p ctb filters copy chroma columns rows k =
+-- the corrected sample at index k of the chroma plane, from the split copy of the piece in which its luma position (x, y) lies; the margin has 3
+-- samples
+unfoldable pub splitCrossAt : Picture → ℕ → List ℤ → List ℕ → List ℕ → Piece → Piece → ℕ → ℕ
+splitCrossAt p ctb filters split chroma columns rows k =
     let x = k % (p .width / subWidth p) * subWidth p in
     let y = k / (p .width / subWidth p) * subHeight p in
     corrected (p .«bit_depth») (getD chroma k 0)
-    (pieceSum copy columns filters (rowOffsets (p .height) ctb y) (x - columns .start + 3) (y - rows .start + 3))
+    (pieceSum split columns (subWidth p) filters (rowOffsets (p .height) ctb y) (x - columns .start + 3) (y - rows .start + 3))

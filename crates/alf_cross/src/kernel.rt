@@ -1,16 +1,17 @@
-// A row of corrected samples. One loop with all taps in its body, and 16 bits wherever memory is read or written: so LLVM vectorises it.
+// A row of corrected samples. One loop with all taps in its body, 16 bits wherever memory is read or written, and neighbouring samples read
+// neighbouring places: so LLVM vectorises it.
 ghost use mathlib.Core.Path.{_≡_};
 ghost use mathlib.Core.List.{[], _∷_};
 ghost use Prim.Native.Nat.{ℕ, _+_, _-_, _*_, _^_, _≤_, _<_};
 ghost use lib.ListN.{length, getD};
 ghost use lib.IntN.{pos, natAbs, _+ℤ_, _-ℤ_, _*ℤ_};
 ghost use Rattle.alf_spec.specs.Lists.{painted};
+ghost use Rattle.alf_spec.specs.Arithmetic.{clip3, clipSample};
 ghost use Rattle.alf_spec.specs.CrossComponent.{corrected as correctedBy};
 ghost use Rattle.alf_pieces.specs.Regions.{between};
-ghost use Rattle.alf_cross.specs.Taps.{Reads, SmallTaps, copySum, rowSample};
-use alf_math::rounding::clip;
-use alf_math::rounding::clip_sample;
+ghost use Rattle.alf_cross.specs.Taps.{Reads, SmallTaps, last, splitSum, rowSample};
 use alf_math::rounding::rounded;
+use alf_math::rounding::top_level;
 
 // Half the levels of a sample: a correction is clipped to it.
 fn half_levels(depth: u32) -> u32
@@ -20,32 +21,65 @@ fn half_levels(depth: u32) -> u32
     1 << (depth - 1)
 }
 
-// (1534) to (1536): the current sample, corrected by a sum of taps.
+// Clip3( low, high, v ), 16 bits wide: a minimum and a maximum, each one instruction of a vector.
+fn clip16(low: i16, high: i16, v: i16) -> i16
+    ensures { λ r. ⌜ r ≡ clip3 low high v ⌝ }
+{
+    if v < low {
+        low
+    } else if high < v {
+        high
+    } else {
+        v
+    }
+}
+
+// Clip3( 0, ( 1 << BitDepth ) − 1, v )
+fn level16(v: i16, depth: u32) -> u16
+    requires { ⌜ depth ≤ 12 ⌝ }
+    ensures { λ r. ⌜ r ≡ clipSample depth v ⌝ }
+{
+    clip16(0, top_level(depth) as i16, v) as u16
+}
+
+// (1534) to (1536): the current sample, corrected by a sum of taps. What the shift leaves of the sum fits 16 bits.
 fn corrected(curr: u16, sum: i32, depth: u32) -> u16
-    requires { ⌜ (curr < 4096) × (natAbs sum ≤ 2 ^ 30) × (1 ≤ depth) × (depth ≤ 12) ⌝ }
+    requires { ⌜ (curr < 4096) × (natAbs sum ≤ 7 * (128 * 4095)) × (1 ≤ depth) × (depth ≤ 12) ⌝ }
     ensures { λ r. ⌜ r ≡ correctedBy depth curr sum ⌝ }
 {
     let half = half_levels(depth);
-    let change = clip(-(half as i32), (half - 1) as i32, rounded(sum, 7));
-    clip_sample(curr as i32 + change, depth)
+    let change = clip16(-(half as i16), (half - 1) as i16, rounded(sum, 7) as i16);
+    level16(curr as i16 + change, depth)
 }
 
-// A sum with one tap more: coefficient f at the sample at row + at + i of the copy. The difference of two samples fits 16 bits.
-fn cross_tap(sum: i32, copy: &[u16], middle: u16, row: usize, at: usize, i: usize, f: i16) -> i32
-    requires { ⌜ (natAbs sum ≤ 2 ^ 30) × (middle < 4096) × (row + at + i < length (now copy)) × (getD (now copy) (row + at + i) 0 < 4096)
+// A sum with one tap more: coefficient f at the sample at row + at + column of the split copy. The difference of two samples fits 16 bits.
+fn cross_tap(
+    sum: i32,
+    split: &[u16],
+    middle: u16,
+    row: usize,
+    at: usize,
+    column: usize,
+    f: i16,
+) -> i32
+    requires { ⌜ (natAbs sum ≤ 2 ^ 30) × (middle < 4096) × (row + at + column < length (now split)) × (getD (now split) (row + at + column) 0 < 4096)
         × (natAbs f ≤ 128) ⌝ }
-    ensures { λ r. ⌜ (r ≡ sum +ℤ f *ℤ (pos (getD (now (copy .entry)) (row + at + i) 0) -ℤ pos middle)) × (natAbs r ≤ natAbs sum + 2 ^ 20) ⌝ }
+    ensures { λ r. ⌜ (r ≡ sum +ℤ f *ℤ (pos (getD (now (split .entry)) (row + at + column) 0) -ℤ pos middle)) × (natAbs r ≤ natAbs sum + 128 * 4095) ⌝ }
 {
-    sum + f as i32 * (copy[row + at + i] as i16 - middle as i16) as i32
+    sum + f as i32 * (split[row + at + column] as i16 - middle as i16) as i32
 }
 
-// (1533): the taps of the sample at place `at` of its row, of which the rows begin, a column early, at `above`, `here`, `below` and `far` of the copy.
+// (1533): the taps of the sample at place `at` of its row. The rows begin at `above`, `here`, `below` and `far` of the split copy; in each, the
+// columns left of the samples, their own and right of them begin at `left`, `own` and `right`.
 fn cross_sum(
-    copy: &[u16],
+    split: &[u16],
     above: usize,
     here: usize,
     below: usize,
     far: usize,
+    left: usize,
+    own: usize,
+    right: usize,
     at: usize,
     f0: i16,
     f1: i16,
@@ -55,27 +89,30 @@ fn cross_sum(
     f5: i16,
     f6: i16,
 ) -> i32
-    requires { ⌜ (Reads (now copy) above here below far (at + 2)) × (SmallTaps (f0 ∷ f1 ∷ f2 ∷ f3 ∷ f4 ∷ f5 ∷ f6 ∷ [])) ⌝ }
-    ensures { λ r. ⌜ (r ≡ copySum (now (copy .entry)) above here below far (f0 ∷ f1 ∷ f2 ∷ f3 ∷ f4 ∷ f5 ∷ f6 ∷ []) at)
-        × (natAbs r ≤ 7 * 2 ^ 20) ⌝ }
+    requires { ⌜ (Reads (now split) above here below far (at + last left own right)) × (SmallTaps (f0 ∷ f1 ∷ f2 ∷ f3 ∷ f4 ∷ f5 ∷ f6 ∷ [])) ⌝ }
+    ensures { λ r. ⌜ (r ≡ splitSum (now (split .entry)) above here below far left own right (f0 ∷ f1 ∷ f2 ∷ f3 ∷ f4 ∷ f5 ∷ f6 ∷ []) at)
+        × (natAbs r ≤ 7 * (128 * 4095)) ⌝ }
 {
-    let middle = copy[here + at + 1];
-    let s0 = cross_tap(0, copy, middle, above, at, 1, f0);
-    let s1 = cross_tap(s0, copy, middle, here, at, 0, f1);
-    let s2 = cross_tap(s1, copy, middle, here, at, 2, f2);
-    let s3 = cross_tap(s2, copy, middle, below, at, 0, f3);
-    let s4 = cross_tap(s3, copy, middle, below, at, 1, f4);
-    let s5 = cross_tap(s4, copy, middle, below, at, 2, f5);
-    cross_tap(s5, copy, middle, far, at, 1, f6)
+    let middle = split[here + at + own];
+    let s0 = cross_tap(0, split, middle, above, at, own, f0);
+    let s1 = cross_tap(s0, split, middle, here, at, left, f1);
+    let s2 = cross_tap(s1, split, middle, here, at, right, f2);
+    let s3 = cross_tap(s2, split, middle, below, at, left, f3);
+    let s4 = cross_tap(s3, split, middle, below, at, own, f4);
+    let s5 = cross_tap(s4, split, middle, below, at, right, f5);
+    cross_tap(s5, split, middle, far, at, own, f6)
 }
 
 // The sample `curr`, corrected by the taps at place `at`.
 fn cross_at(
-    copy: &[u16],
+    split: &[u16],
     above: usize,
     here: usize,
     below: usize,
     far: usize,
+    left: usize,
+    own: usize,
+    right: usize,
     at: usize,
     f0: i16,
     f1: i16,
@@ -87,16 +124,19 @@ fn cross_at(
     curr: u16,
     depth: u32,
 ) -> u16
-    requires { ⌜ (Reads (now copy) above here below far (at + 2)) × (SmallTaps (f0 ∷ f1 ∷ f2 ∷ f3 ∷ f4 ∷ f5 ∷ f6 ∷ []))
+    requires { ⌜ (Reads (now split) above here below far (at + last left own right)) × (SmallTaps (f0 ∷ f1 ∷ f2 ∷ f3 ∷ f4 ∷ f5 ∷ f6 ∷ []))
         × (curr < 4096) × (1 ≤ depth) × (depth ≤ 12) ⌝ }
-    ensures { λ r. ⌜ r ≡ correctedBy depth curr (copySum (now (copy .entry)) above here below far (f0 ∷ f1 ∷ f2 ∷ f3 ∷ f4 ∷ f5 ∷ f6 ∷ []) at) ⌝ }
+    ensures { λ r. ⌜ r ≡ correctedBy depth curr (splitSum (now (split .entry)) above here below far left own right (f0 ∷ f1 ∷ f2 ∷ f3 ∷ f4 ∷ f5 ∷ f6 ∷ []) at) ⌝ }
 {
     let sum = cross_sum(
-        copy,
+        split,
         above,
         here,
         below,
         far,
+        left,
+        own,
+        right,
         at,
         f0,
         f1,
@@ -109,14 +149,16 @@ fn cross_at(
     corrected(curr, sum, depth)
 }
 
-// n samples of a chroma plane, from index `from` on; the copy has `step` luma samples for each of them.
+// n samples of a chroma plane, from index `from` on.
 pub(crate) fn cross_row(
-    copy: &[u16],
+    split: &[u16],
     above: usize,
     here: usize,
     below: usize,
     far: usize,
-    step: usize,
+    left: usize,
+    own: usize,
+    right: usize,
     f0: i16,
     f1: i16,
     f2: i16,
@@ -130,21 +172,24 @@ pub(crate) fn cross_row(
     n: usize,
     output: &mut [u16],
 )
-    requires { ⌜ (Reads (now copy) above here below far (step * n + 2)) × (SmallTaps (f0 ∷ f1 ∷ f2 ∷ f3 ∷ f4 ∷ f5 ∷ f6 ∷ []))
+    requires { ⌜ (Reads (now split) above here below far (n + last left own right)) × (SmallTaps (f0 ∷ f1 ∷ f2 ∷ f3 ∷ f4 ∷ f5 ∷ f6 ∷ []))
         × (1 ≤ depth) × (depth ≤ 12) × ((k : ℕ) → getD (now chroma) k 0 < 4096)
         × (from + n ≤ length (now chroma)) × (from + n ≤ length (now output)) ⌝ }
     ensures { λ _. ⌜ now (output .exit) ≡ painted (now (output .entry)) (between from n)
-        (rowSample (now (copy .entry)) above here below far (f0 ∷ f1 ∷ f2 ∷ f3 ∷ f4 ∷ f5 ∷ f6 ∷ []) depth step (now (chroma .entry)) from) ⌝ }
+        (rowSample (now (split .entry)) above here below far left own right (f0 ∷ f1 ∷ f2 ∷ f3 ∷ f4 ∷ f5 ∷ f6 ∷ []) depth (now (chroma .entry)) from) ⌝ }
 {
     let mut x: usize = 0;
     while x < n {
         output[from + x] = cross_at(
-            copy,
+            split,
             above,
             here,
             below,
             far,
-            step * x,
+            left,
+            own,
+            right,
+            x,
             f0,
             f1,
             f2,

@@ -12,9 +12,10 @@ ghost use Rattle.alf_spec.specs.declared.Ctb.{Ctb};
 ghost use Rattle.alf_pieces.specs.Regions.{between, inRect};
 ghost use Rattle.alf_pieces.specs.Pieces.{PieceOf, BlockPiece, CtbOf};
 ghost use Rattle.alf_pieces.specs.Copies.{extent as extentOf, copyLength};
-ghost use Rattle.alf_cross.specs.Work.{ChromaWork, CrossWork, SmallCopy, CrossFilter, copyCrossAt};
+ghost use Rattle.alf_cross.specs.Work.{ChromaWork, CrossWork, SmallCopy, CrossFilter, splitCrossAt};
 use crate::rows::offset_row;
 use crate::rows::row_offsets;
+use crate::split::split_copy;
 use alf_math::grid::sub_height;
 use alf_math::grid::sub_width;
 use alf_pieces::copies::copy_piece;
@@ -32,30 +33,30 @@ fn chroma_place(width: u32, step: u32, v: u32, x: u32) -> usize
     v as usize * (width / step) as usize + (x / step) as usize
 }
 
-// The piece's samples in row v of the chroma plane, from the piece's copy.
+// The piece's samples in row v of the chroma plane, from the piece's split copy.
 fn piece_row(
     picture: Picture,
     grid: Grid,
     columns: Piece,
     rows: Piece,
-    copy: &[u16],
+    split: &[u16],
     chroma: &[u16],
     filters: &[i16],
     v: u32,
     output: &mut [u16],
 )
     requires { ⌜ (ChromaWork picture grid (now chroma) (now filters) (length (now output)))
-        × (BlockPiece (picture .width) columns) × (BlockPiece (picture .height) rows) × (SmallCopy (now copy) (copyLength columns rows))
+        × (BlockPiece (picture .width) columns) × (BlockPiece (picture .height) rows) × (SmallCopy (now split) (copyLength columns rows))
         × (rows .start / subHeight picture ≤ v) × (v < rows .end / subHeight picture) ⌝ }
     ensures { λ _. ⌜ now (output .exit) ≡ painted (now (output .entry))
         (between (v * (picture .width / subWidth picture) + columns .start / subWidth picture) (extentOf columns / subWidth picture))
-        (copyCrossAt picture (grid .ctb) (now (filters .entry)) (now (copy .entry)) (now (chroma .entry)) columns rows) ⌝ }
+        (splitCrossAt picture (grid .ctb) (now (filters .entry)) (now (split .entry)) (now (chroma .entry)) columns rows) ⌝ }
 {
     let step = sub_width(picture);
     let y = v * sub_height(picture);
     let width = extent(columns);
     offset_row(
-        copy,
+        split,
         width + 6,
         (y - rows.start) as usize + 3,
         row_offsets(picture.height, grid.ctb, y),
@@ -69,23 +70,23 @@ fn piece_row(
     );
 }
 
-// The piece's samples, from its copy.
+// The piece's samples, from its split copy.
 fn piece_rows(
     picture: Picture,
     grid: Grid,
     columns: Piece,
     rows: Piece,
-    copy: &[u16],
+    split: &[u16],
     chroma: &[u16],
     filters: &[i16],
     output: &mut [u16],
 )
     requires { ⌜ (ChromaWork picture grid (now chroma) (now filters) (length (now output)))
-        × (BlockPiece (picture .width) columns) × (BlockPiece (picture .height) rows) × (SmallCopy (now copy) (copyLength columns rows)) ⌝ }
+        × (BlockPiece (picture .width) columns) × (BlockPiece (picture .height) rows) × (SmallCopy (now split) (copyLength columns rows)) ⌝ }
     ensures { λ _. ⌜ now (output .exit) ≡ painted (now (output .entry))
         (inRect (picture .width / subWidth picture) (columns .start / subWidth picture) (columns .end / subWidth picture)
         (rows .start / subHeight picture) (rows .end / subHeight picture))
-        (copyCrossAt picture (grid .ctb) (now (filters .entry)) (now (copy .entry)) (now (chroma .entry)) columns rows) ⌝ }
+        (splitCrossAt picture (grid .ctb) (now (filters .entry)) (now (split .entry)) (now (chroma .entry)) columns rows) ⌝ }
 {
     let ratio = sub_height(picture);
     let end = rows.end / ratio;
@@ -96,7 +97,7 @@ fn piece_rows(
             grid,
             columns,
             rows,
-            copy,
+            split,
             chroma,
             filters,
             v,
@@ -117,9 +118,10 @@ pub fn filter_piece(
     chroma: &[u16],
     filters: &[i16],
     copy: &mut [u16],
+    split: &mut [u16],
     output: &mut [u16],
 )
-    requires { ⌜ (CrossWork picture grid (now luma) (now chroma) (now filters) (length (now copy)) (length (now output)))
+    requires { ⌜ (CrossWork picture grid (now luma) (now chroma) (now filters) (length (now copy)) (length (now split)) (length (now output)))
         × (BlockPiece (picture .width) columns) × (BlockPiece (picture .height) rows) ⌝ }
     ensures { λ _. ⌜ ((i : Input) (c : Ctb) (component : ℕ) → CtbOf (i .layout) picture c sides
         → i .luma ≡ now (luma .entry) → i .chroma ≡ now (chroma .entry) → CrossFilter i c component (now (filters .entry))
@@ -131,5 +133,12 @@ pub fn filter_piece(
         (atIndex (chromaPlane (i .layout)) (crossSample i component))) ⌝ }
 {
     copy_piece(luma, picture.width as usize, columns, rows, sides, copy);
-    piece_rows(picture, grid, columns, rows, copy, chroma, filters, output);
+    split_copy(
+        copy,
+        extent(columns) + 6,
+        extent(rows) + 6,
+        sub_width(picture),
+        split,
+    );
+    piece_rows(picture, grid, columns, rows, split, chroma, filters, output);
 }

@@ -6,9 +6,10 @@ ghost use lib.ListN.{length, getD};
 ghost use Rattle.alf_spec.specs.Lists.{painted};
 ghost use Rattle.alf_spec.specs.CrossComponent.{crossRows};
 ghost use Rattle.alf_pieces.specs.Regions.{between};
-ghost use Rattle.alf_cross.specs.Taps.{rowPlace, RowReads, offsetSample};
+ghost use Rattle.alf_cross.specs.Taps.{last, splitPlace, RowReads, offsetSample};
 ghost use Rattle.alf_cross.specs.Work.{rowOffsets};
 use crate::kernel::cross_row;
+use crate::split::column_place;
 use alf_boundary::clips::line_rule;
 use alf_spec::CrossRows;
 
@@ -35,17 +36,17 @@ pub(crate) fn row_offsets(height: u32, ctb: u32, y: u32) -> CrossRows
     cross_rows(line_rule(height, ctb, y), ctb - y % ctb)
 }
 
-// Where row j of the copy begins, a column before the piece's first: the margin has 3.
+// Where row j of the copy begins.
 fn row_place(pitch: usize, j: usize) -> usize
     requires { ⌜ (pitch ≤ 134) × (j ≤ 134) ⌝ }
-    ensures { λ r. ⌜ r ≡ rowPlace pitch j ⌝ }
+    ensures { λ r. ⌜ r ≡ j * pitch ⌝ }
 {
-    j * pitch + 2
+    j * pitch
 }
 
 // n samples of a chroma plane, from index `from` on, whose luma row is row j of the copy.
 pub(crate) fn offset_row(
-    copy: &[u16],
+    split: &[u16],
     pitch: usize,
     j: usize,
     offsets: CrossRows,
@@ -57,22 +58,24 @@ pub(crate) fn offset_row(
     n: usize,
     output: &mut [u16],
 )
-    requires { ⌜ (RowReads (now copy) pitch j offsets (step * n + 2)) × (pitch ≤ 134)
+    requires { ⌜ (RowReads (now split) pitch j offsets (n + last (splitPlace pitch step 2) (splitPlace pitch step 3) (splitPlace pitch step 4))) × (pitch ≤ 134)
         × (offsets .y1 ≤ j) × (offsets .y1 ≤ offsets .y2) × (j + offsets .y2 ≤ 134)
         × (7 ≤ length (now filters)) × ((i : ℕ) → natAbs (getD (now filters) i (pos 0)) ≤ 128) × (1 ≤ depth) × (depth ≤ 12)
         × ((k : ℕ) → getD (now chroma) k 0 < 4096) × (from + n ≤ length (now chroma)) × (from + n ≤ length (now output)) ⌝ }
     ensures { λ _. ⌜ now (output .exit) ≡ painted (now (output .entry)) (between from n)
-        (offsetSample (now (copy .entry)) pitch j offsets (now (filters .entry)) depth step (now (chroma .entry)) from) ⌝ }
+        (offsetSample (now (split .entry)) pitch j offsets step (now (filters .entry)) depth (now (chroma .entry)) from) ⌝ }
 {
     let y1 = offsets.y1 as usize;
     let y2 = offsets.y2 as usize;
     cross_row(
-        copy,
+        split,
         row_place(pitch, j - y1),
         row_place(pitch, j),
         row_place(pitch, j + y1),
         row_place(pitch, j + y2),
-        step,
+        column_place(pitch, step, 2),
+        column_place(pitch, step, 3),
+        column_place(pitch, step, 4),
         filters[0],
         filters[1],
         filters[2],

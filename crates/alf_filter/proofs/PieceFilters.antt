@@ -73,7 +73,7 @@ module _ {f : Filter} {p : Picture} {g : Grid} {luma chroma places : List ℕ} (
         numbers = rooms .spread;
       }
 
-  pub cross-work : {component : ℕ} → f ≡ CrossComponent component → CrossWork p g luma chroma filters copy output
+  pub cross-work : {component : ℕ} → f ≡ CrossComponent component → CrossWork p g luma chroma filters copy differences output
   cross-work e =
       let given = subst (λ f. Given f p g luma chroma places) e isGiven in
       let rooms = subst (λ f. Rooms f p copy differences taps output) e isRooms in
@@ -93,6 +93,7 @@ module _ {f : Filter} {p : Picture} {g : Grid} {luma chroma places : List ℕ} (
         lumaLength = given .lumaLength refl;
         lumaSamples = given .luma refl;
         copyRoom = rooms .copyRoom;
+        splitRoom = omega (arith, rooms .differenceRoom);
       }
 
 -- a piece of whole blocks in the samples of a chroma plane

@@ -67,6 +67,7 @@ pub(crate) fn filter_piece(
                 output,
             );
         }
+        // it finds no classes: the room for differences takes the split copy
         Filter::CrossComponent(_) => {
             alf_cross::filter_piece(
                 picture,
@@ -78,6 +79,7 @@ pub(crate) fn filter_piece(
                 chroma,
                 filters,
                 copy,
+                differences,
                 output,
             );
         }

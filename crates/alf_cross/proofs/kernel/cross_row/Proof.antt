@@ -1,8 +1,8 @@
 -- `alf_cross::kernel::cross_row` meets its contract: the samples before the x-th are corrected. Assumes nothing.
 use mathlib.Core.Path.{_≡_}
 use mathlib.Core.List.{List, [], _∷_, map}
-use Prim.Native.Nat.{ℕ, _+_, _-_, _*_, _≤_}
-use native.Mathlib.Nat.{le-antisymm, mul-le-mul-left}
+use Prim.Native.Nat.{ℕ, _+_, _-_, _≤_}
+use native.Mathlib.Nat.{le-antisymm}
 use native.Mathlib.Omega.{arith}
 use lib.IntN.{ℤ}
 use mir.Syntax.{w16}
@@ -21,16 +21,12 @@ abbrev signed : List ℕ → List ℤ
 signed = map (toZ w16)
 
 abbrev Inv-loop : tie.InvT-loop
-Inv-loop copy above here below far step f0 f1 f2 f3 f4 f5 f6 depth chroma from n output₀ x₀ output x =
+Inv-loop split above here below far left own right f0 f1 f2 f3 f4 f5 f6 depth chroma from n output₀ x₀ output x =
     (x ≤ n) × Paint output₀ (between from x)
-    (rowSample copy above here below far (signed (f0 ∷ f1 ∷ f2 ∷ f3 ∷ f4 ∷ f5 ∷ f6 ∷ [])) depth step chroma from) output
+    (rowSample split above here below far left own right (signed (f0 ∷ f1 ∷ f2 ∷ f3 ∷ f4 ∷ f5 ∷ f6 ∷ [])) depth chroma from) output
 
 abbrev μ-loop : tie.MeasureT-loop
-μ-loop copy above here below far step f0 f1 f2 f3 f4 f5 f6 depth chroma from n output₀ x₀ output x = n - x
-
--- the x-th sample's place lies before the row's end
-place : (c : tie.In-loop Inv-loop μ-loop) → let a = c .before .before .before .before .before .args in a .step * c .before .loop .x ≤ a .step * a .n
-place c = mul-le-mul-left (c .before .before .before .before .before .args .step) (c .before .loop .inv .0)
+μ-loop split above here below far left own right f0 f1 f2 f3 f4 f5 f6 depth chroma from n output₀ x₀ output x = n - x
 
 loop-again : tie.Need-loop-again Inv-loop μ-loop
 unfolding rowSample
@@ -49,13 +45,12 @@ cross-row-spec =
     Inv-loop
     μ-loop
     (λ c. (omega arith, paint-none (run-none _)))
-    (λ c. omega (arith, place c, c .before .before .before .before .before .pre .0 .room))
     (λ c. omega arith)
     (λ c. omega arith)
     (λ c. omega arith)
     (λ c κs.
     let s = c .before .before .before .before .before .before in (
-      reads-less (s .pre .0) (omega (arith, place (c .before))),
+      reads-less (s .pre .0) (omega arith),
       rw (taps-back (s .pre .1)) (s .pre .1),
       s .pre .4 _,
       s .pre .2,

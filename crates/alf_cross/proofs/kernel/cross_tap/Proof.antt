@@ -9,23 +9,24 @@ use lib.IntN.{ℤ, pos, natAbs, _+ℤ_, _-ℤ_, _*ℤ_}
 use mir.Syntax.{w16, w32}
 use mir.Val.{SFits, toZ}
 use borrow.Author.Needs.{needs}
-use Rattle.alf_math.proofs.Magnitude.{abs-add, abs-sub, abs-mul, fits-abs, back, widened, words}
+use Rattle.alf_math.proofs.Magnitude.{abs-add, abs-mul, fits-abs, back, widened, words}
+use Rattle.alf_cross.proofs.TapSums.{differ}
 use Rattle.alf_cross.proofs.kernel.cross_tap.Statement.{statement}
 use Rattle.alf_cross.proofs.kernel.cross_tap.Tie as tie
 
 -- the difference
 abbrev change : tie.Start → ℤ
-change s = let a = s .args in pos (getD (a .copy .now) (a .row + a .at + a .i) 0) -ℤ pos (a .middle)
+change s = let a = s .args in pos (getD (a .split .now) (a .row + a .at + a .column) 0) -ℤ pos (a .middle)
 
 sample-is : (s : tie.Start) → let a = s .args in
-    toZ w16 (getD (a .copy .now) (a .row + a .at + a .i) 0) ≡ pos (getD (a .copy .now) (a .row + a .at + a .i) 0)
+    toZ w16 (getD (a .split .now) (a .row + a .at + a .column) 0) ≡ pos (getD (a .split .now) (a .row + a .at + a .column) 0)
 sample-is s = back w16 _ (omega arith)
 
 middle-is : (s : tie.Start) → toZ w16 (s .args .middle) ≡ pos (s .args .middle)
 middle-is s = back w16 _ (omega arith)
 
-change-small : (s : tie.Start) → natAbs (change s) ≤ 8192
-change-small s = let a = s .args in omega (arith, abs-sub (pos (getD (a .copy .now) (a .row + a .at + a .i) 0)) (pos (a .middle)))
+change-small : (s : tie.Start) → natAbs (change s) ≤ 4095
+change-small s = differ _ _ (s .pre .3) (s .pre .1)
 
 change-fits : (s : tie.Start) → SFits w16 (change s)
 change-fits s = fits-abs (omega (arith, change-small s))
@@ -34,13 +35,13 @@ change-fits s = fits-abs (omega (arith, change-small s))
 abbrev added : tie.Start → ℤ
 added s = s .args .f *ℤ change s
 
-added-small : (s : tie.Start) → natAbs (added s) ≤ 2 ^ 20
+added-small : (s : tie.Start) → natAbs (added s) ≤ 128 * 4095
 added-small s = rw abs-mul (mul-le-mul (s .pre .4) (change-small s))
 
 added-fits : (s : tie.Start) → SFits w32 (added s)
 added-fits s = fits-abs (omega (arith, added-small s))
 
-total-small : (s : tie.Start) → natAbs (s .args .sum +ℤ added s) ≤ natAbs (s .args .sum) + 2 ^ 20
+total-small : (s : tie.Start) → natAbs (s .args .sum +ℤ added s) ≤ natAbs (s .args .sum) + 128 * 4095
 total-small s = omega (arith, abs-add (s .args .sum) (added s), added-small s)
 
 total-fits : (s : tie.Start) → SFits w32 (s .args .sum +ℤ added s)

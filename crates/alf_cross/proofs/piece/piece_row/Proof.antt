@@ -1,4 +1,4 @@
--- `alf_cross::piece::piece_row` meets its contract: the row's taps lie in the copy. Assumes nothing.
+-- `alf_cross::piece::piece_row` meets its contract: the row's taps lie in the split copy. Assumes nothing.
 use mathlib.Core.Path.{refl}
 use Prim.Native.Nat.{_-_, _+_, _*_, _/_, _≤_, _<_}
 use native.Mathlib.Nat.{div-le-self}
@@ -9,7 +9,7 @@ use Rattle.alf_spec.proofs.IsolatedRegions.Ratios.{chroma-ratios}
 use Rattle.alf_math.proofs.Grids.{width-bounds, height-bounds, depth-bounds}
 use Rattle.alf_pieces.specs.Copies.{extent, pitch}
 use Rattle.alf_pieces.proofs.Painted.{paint-is, paint-of, paint-same}
-use Rattle.alf_cross.proofs.PieceRows.{Near, near, own, row-reads, luma-row, row-fits, row-value}
+use Rattle.alf_cross.proofs.PieceRows.{Near, near, row-reads, columns-fit, luma-row, row-fits, row-value}
 use Rattle.alf_cross.proofs.piece.piece_row.Statement.{statement}
 use Rattle.alf_cross.proofs.piece.piece_row.Tie as tie
 
@@ -44,14 +44,13 @@ offset-row-requires c κs =
     let W = s .pre .0 in
     let y = inside s in
     let N : Near (c .before .before .before .row-offsets .result) = rw (c .before .before .before .row-offsets .ensures) (near _ _) in
-    let across = own (subWidth (a .picture)) (chroma-ratios (a .picture) .0) (s .pre .1) in
     let depth = depth-bounds _ (W .depth) in
     let fits = row-fits (a .picture) (s .pre .1) (s .pre .2) (a .v) (s .pre .4) (s .pre .5) in
     let height = c .before .before .before .before .before .before in
     let wide = c .before .before .before .before .before .extent .ensures in
     rw (c .before .chroma-place .ensures, height .before .sub-width .ensures .0, height .sub-height .ensures .0, wide) (
       row-reads (a .v * subHeight (a .picture) - a .rows .start + 3) (pitch (a .columns)) (pitch (a .rows))
-          (subWidth (a .picture) * (extent (a .columns) / subWidth (a .picture)) + 2) N (s .pre .3) (omega arith) (omega (arith, across .all)),
+          _ N (s .pre .3) (omega arith) (columns-fit (subWidth (a .picture)) (chroma-ratios (a .picture) .0) (s .pre .1)),
       omega (arith, s .pre .1 .numbers .small),
       omega (arith, N .above),
       N .order,

@@ -12,20 +12,20 @@ use Rattle.alf_pieces.specs.Regions.{inRect}
 use Rattle.alf_pieces.specs.Copies.{extent}
 use Rattle.alf_pieces.proofs.Painted.{Paint, paint-is, paint-none, paint-call}
 use Rattle.alf_pieces.proofs.Regions.{rect-none, rect-more}
-use Rattle.alf_cross.specs.Work.{copyCrossAt}
+use Rattle.alf_cross.specs.Work.{splitCrossAt}
 use Rattle.alf_cross.proofs.PieceRows.{Own, own}
 use Rattle.alf_cross.proofs.piece.piece_rows.Statement.{statement}
 use Rattle.alf_cross.proofs.piece.piece_rows.Tie as tie
 
 abbrev Inv-loop : tie.InvT-loop
-Inv-loop picture grid columns rows copy chroma filters output₀ ratio end v₀ output v =
+Inv-loop picture grid columns rows split chroma filters output₀ ratio end v₀ output v =
     (rows .start / subHeight picture ≤ v) × (v ≤ rows .end / subHeight picture)
     × Paint output₀ (inRect (picture .width / subWidth picture) (columns .start / subWidth picture)
     (columns .start / subWidth picture + extent columns / subWidth picture) (rows .start / subHeight picture) v)
-    (copyCrossAt picture (grid .ctb) filters copy chroma columns rows) output
+    (splitCrossAt picture (grid .ctb) filters split chroma columns rows) output
 
 abbrev μ-loop : tie.MeasureT-loop
-μ-loop picture grid columns rows copy chroma filters output₀ ratio end v₀ output v = end - v
+μ-loop picture grid columns rows split chroma filters output₀ ratio end v₀ output v = end - v
 
 -- the piece in the chroma plane
 across : (s : tie.Start Inv-loop μ-loop) → Own (subWidth (s .args .picture)) (s .args .picture .width) (s .args .columns)

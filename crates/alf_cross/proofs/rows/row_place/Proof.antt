@@ -8,4 +8,4 @@ use Rattle.alf_cross.proofs.rows.row_place.Tie as tie
 pub row-place-spec : {M : Type 1} → statement M
 row-place-spec =
     tie.close
-    (tie.spec (λ c. omega (arith, mul-le-mul (c .pre .0) (c .pre .1))) (λ c. omega (arith, mul-le-mul (c .pre .0) (c .pre .1))) (λ c. search needs))
+    (tie.spec (λ c. omega (arith, mul-le-mul (c .pre .0) (c .pre .1))) (λ c. search needs))

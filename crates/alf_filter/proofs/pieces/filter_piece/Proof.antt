@@ -34,7 +34,7 @@ filter-piece-requires-2 c κs =
 
 filter-piece-requires-3 : tie.Need-filter-piece-requires-3
 filter-piece-requires-3 c κs =
-    let f = c .before .before in
+    let f = c .before .before .before in
     let s = cross-start f in
     (cross-work _ (s .pre .0) (s .pre .1) (s .pre .2) (f .enum-told3 .given .1), s .pre .3, s .pre .4)
 
@@ -58,9 +58,9 @@ returns-2 c =
 
 returns-3 : tie.Need-returns-3
 returns-3 c =
-    let f = c .before .before .before .before .before .before .before in
+    let f = c .before .before .before .before .before .before .before .before .before .before in
     let s = cross-start f in
-    (cross-filtered _ _ _ _ _ _ _ _ _ _ (f .enum-told3 .given .1) (c .before .before .before .before .filter-piece3 .ensures), s .pre .2 .spread)
+    (cross-filtered _ _ _ _ _ _ _ _ _ _ (f .enum-told3 .given .1) (c .before .before .before .before .before .before .filter-piece3 .ensures), s .pre .2 .spread)
 
 pub filter-piece-spec : {M : Type 1} → statement M
 filter-piece-spec =
@@ -85,6 +85,7 @@ filter-piece-spec =
     (λ c. search needs)
     (λ c. search needs)
     returns-2
+    (λ c. search needs)
     (λ c. search needs)
     (λ c. search needs)
     returns-3)
