@@ -1,7 +1,7 @@
 -- What the isolation test's answer says of the number returned and of what is written. Assumes nothing.
-use mathlib.Core.Path.{_≡_, refl, sym, _∙_, ap}
-use mathlib.Core.Bool.{Bool, true, false, cond, _&&_}
-use Prim.Native.Nat.{ℕ, suc, pred}
+use mathlib.Core.Path.{_≡_, sym, _∙_, ap}
+use mathlib.Core.Bool.{Bool, true, false, _&&_}
+use Prim.Native.Nat.{ℕ}
 use lib.Dec.{eqb}
 use Rattle.alf_spec.specs.declared.Fault.{Fault}
 use Rattle.alf_spec.specs.declared.Isolation.{Isolation}

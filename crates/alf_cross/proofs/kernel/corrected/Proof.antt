@@ -1,8 +1,8 @@
 -- `alf_cross::kernel::corrected` meets its contract: the rounded sum, the clipped change and the sample moved by it fit 16 bits. Assumes nothing.
-use mathlib.Core.Path.{_≡_, refl}
+use mathlib.Core.Path.{_≡_}
 use Prim.Native.Nat.{_-_, _*_, _^_, _≤_}
 use native.Mathlib.Omega.{arith}
-use lib.IntN.{ℤ, pos, negℤ, natAbs, _+ℤ_, _-ℤ_, +ℤ-idl}
+use lib.IntN.{ℤ, pos, negℤ, _+ℤ_, _-ℤ_, +ℤ-idl}
 use lib.Pow.{pow-mono}
 use mir.Syntax.{w16, w32}
 use mir.Val.{SFits, toZ, ofZ}

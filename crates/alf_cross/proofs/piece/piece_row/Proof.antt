@@ -1,6 +1,6 @@
 -- `alf_cross::piece::piece_row` meets its contract: the row's taps lie in the split copy. Assumes nothing.
 use mathlib.Core.Path.{refl}
-use Prim.Native.Nat.{_-_, _+_, _*_, _/_, _≤_, _<_}
+use Prim.Native.Nat.{_-_, _+_, _*_, _≤_, _<_}
 use native.Mathlib.Nat.{div-le-self}
 use native.Mathlib.Omega.{arith}
 use borrow.Author.Needs.{needs}

@@ -1,5 +1,4 @@
 -- `alf_cross::split::split_copy` meets its contract. Assumes nothing.
-use native.Mathlib.Omega.{arith}
 use borrow.Author.Needs.{needs}
 use Rattle.alf_cross.proofs.SplitColumns.{plain-copy}
 use Rattle.alf_cross.proofs.split.split_copy.Statement.{statement}
