@@ -2,7 +2,6 @@
 #include "alf.h"
 
 #include <stdio.h>
-#include <string.h>
 
 enum { SIZE = 64 };
 
