@@ -8,7 +8,6 @@ pub mod IsolatedRegions
 pub mod Lists
 pub mod Planes
 pub mod Rejections
-pub mod RewrittenOutside
 pub mod Scans
 pub mod SmallPictures
 pub mod TapOrder

@@ -1,7 +1,7 @@
--- An input for each cause of rejection, and one that each operation accepts, worked out by the definitions. Assumes nothing.
+-- An input for each cause of rejection, and inputs that each kind of operation accepts, worked out by the definitions. Assumes nothing.
 use mathlib.Core.Path.{_≡_, refl}
 use mathlib.Core.Bool.{true, false}
-use mathlib.Core.List.{List, [], _∷_, map}
+use mathlib.Core.List.{List, [], _∷_, _++_, map}
 use Prim.Native.Nat.{ℕ, _+_}
 use lib.IntN.{ℤ, pos, negsuc}
 use lib.ListN.{replicate, getD, set}
@@ -56,39 +56,65 @@ onLayout l = smallInput l (zeros 22) (zeros 32) flat (zeros 1600) [] 1600
 abbrev onTables : List ℕ → List ℕ → List ℤ → List ℕ → List ℕ → Input
 onTables sliceParams ctbParams bank plane list = smallInput (plain good) sliceParams ctbParams bank plane list 1600
 
--- ---- the claim
+-- a layout with all but one of its tables in order
+abbrev ofColumns : List ℕ → Layout
+ofColumns columns = mapped good columns (0 ∷ 0 ∷ []) (zeros 4) (zeros 4) (replicate 64 1)
+
+abbrev ofTiles : List ℕ → Layout
+ofTiles tiles = mapped good [] tiles (zeros 4) (zeros 4) (replicate 64 1)
+
+abbrev ofSlices : List ℕ → Layout
+ofSlices slices = mapped good [] (0 ∷ 1 ∷ []) slices (zeros 4) (replicate 64 1)
+
+abbrev ofSubpictures : List ℕ → ℕ → Layout
+ofSubpictures subpics switch = mapped good [] (0 ∷ 1 ∷ []) (1 ∷ 0 ∷ 0 ∷ 0 ∷ []) subpics (replicate 64 switch)
+
+-- an input in which the second CTB's number k is v, and its slice has one luma APS
+abbrev ofCtbNumber : ℕ → ℕ → Input
+ofCtbNumber k v = onTables (set (zeros 22) 0 1) (set (zeros 32) (8 + k) v) [] [] []
+
+-- ---- the claim. A cause has one row with the number that the whole input is given; what else it must reject or pass is put to its own test.
 
 pub record Rejections : Type 0 where
-  -- 01: width 8 and 4,096 pass; 0, 12 and 4,104 give 1
-  pub widths : map sizeValid (8 ∷ 4096 ∷ 0 ∷ 12 ∷ 4104 ∷ []) ≡ true ∷ true ∷ false ∷ false ∷ false ∷ []
-  -- accepted
+  -- accepted, by each kind of operation
   pub accepts : fault luma (onLayout (plain good)) ≡ 0
   pub accepts-chroma : fault (chroma 1) (smallInput (plain good) (zeros 22) (zeros 32) flat [] (3 ∷ 3 ∷ []) 400) ≡ 0
   pub accepts-classes : fault classes (smallInput (plain good) [] [] [] (zeros 1600) [] 100) ≡ 0
   pub accepts-region : isolationFault (plain good) (zeros 25) ≡ 0
-  -- clips up to 2^B, where coefficients end at 127
-  pub accepts-clips : fault luma (onTables (zeros 22) (zeros 32) (set (set flat 12 (pos 256)) 606 (pos 256)) (zeros 1600) []) ≡ 0
-  -- slice and subpicture maps that the corner rules allow
-  pub accepts-slices : map (λ s. fault luma (onLayout (mapped good [] (0 ∷ 1 ∷ []) s (zeros 4) (replicate 64 1)))) ((1 ∷ 0 ∷ 0 ∷ 0 ∷ []) ∷ (0 ∷ 0 ∷ 0 ∷ 1 ∷ []) ∷ (0 ∷ 1 ∷ 1 ∷ 0 ∷ []) ∷ (0 ∷ 0 ∷ 1 ∷ 1 ∷ []) ∷ []) ≡ zeros 4
-  pub accepts-subpictures : map (λ s. fault luma (onLayout (mapped good [] (0 ∷ 1 ∷ []) (zeros 4) s (replicate 64 0)))) ((0 ∷ 63 ∷ 0 ∷ 63 ∷ []) ∷ (0 ∷ 1 ∷ 2 ∷ 3 ∷ []) ∷ (0 ∷ 0 ∷ 1 ∷ 2 ∷ []) ∷ (1 ∷ 0 ∷ 0 ∷ 1 ∷ []) ∷ []) ≡ zeros 4
-  -- the numbers, one by one
-  pub r1 : map (λ w. fault luma (onLayout (plain (sized w 5 8 1 2)))) (0 ∷ 12 ∷ 4104 ∷ []) ≡ 1 ∷ 1 ∷ 1 ∷ []
-  pub r2 : map (λ k. fault luma (onLayout (plain (sized 40 k 8 1 2)))) (4 ∷ 8 ∷ []) ≡ 2 ∷ 2 ∷ []
-  pub r3 : map (λ k. fault luma (onLayout (plain (sized 40 5 k 1 2)))) (7 ∷ 13 ∷ []) ≡ 3 ∷ 3 ∷ []
+  -- 01: width 8 and 4,096 pass; 0, 12 and 4,104 give 1
+  pub widths : map sizeValid (8 ∷ 4096 ∷ 0 ∷ 12 ∷ 4104 ∷ []) ≡ true ∷ true ∷ false ∷ false ∷ false ∷ []
+  pub r1 : fault luma (onLayout (plain (sized 12 5 8 1 2))) ≡ 1
+  pub exponents : map (λ k. ctbSizeValid (sized 40 k 8 1 2)) (4 ∷ 5 ∷ 7 ∷ 8 ∷ []) ≡ false ∷ true ∷ true ∷ false ∷ []
+  pub r2 : fault luma (onLayout (plain (sized 40 8 8 1 2))) ≡ 2
+  pub depths : map (λ b. bitDepthValid (sized 40 5 b 1 2)) (7 ∷ 8 ∷ 12 ∷ 13 ∷ []) ≡ false ∷ true ∷ true ∷ false ∷ []
+  pub r3 : fault luma (onLayout (plain (sized 40 5 13 1 2))) ≡ 3
   pub r4 : fault luma (onLayout (plain (sized 40 5 8 2 2))) ∷ fault (chroma 0) (onLayout (plain (sized 40 5 8 0 2))) ∷ fault (crossComponent 2) (onLayout (plain good)) ∷ []
       ≡ 4 ∷ 4 ∷ 4 ∷ []
-  pub r5 : map (λ n. fault luma (onLayout (plain (sized 40 5 8 1 n)))) (0 ∷ 257 ∷ 3 ∷ []) ≡ 5 ∷ 5 ∷ 5 ∷ []
+  pub counts : map (λ n. layoutLengthsValid (plain (sized 40 5 8 1 n))) (0 ∷ 1 ∷ 256 ∷ 257 ∷ []) ≡ false ∷ true ∷ true ∷ false ∷ []
+  pub r5 : map (λ n. fault luma (onLayout (plain (sized 40 5 8 1 n)))) (257 ∷ 3 ∷ []) ≡ 5 ∷ 5 ∷ []
   pub r5-output : fault luma (smallInput (plain good) (zeros 22) (zeros 32) flat (zeros 1600) [] 1599) ≡ 5
-  pub r6 : map (λ v. fault luma (onLayout (mapped good v (0 ∷ 0 ∷ []) (zeros 4) (zeros 4) (replicate 64 1)))) ((4 ∷ []) ∷ (40 ∷ []) ∷ (8 ∷ 32 ∷ []) ∷ []) ≡ 6 ∷ 6 ∷ 6 ∷ []
-  pub r7 : map (λ t. fault luma (onLayout (mapped good [] t (zeros 4) (zeros 4) (replicate 64 1)))) ((1 ∷ 1 ∷ []) ∷ (0 ∷ 2 ∷ []) ∷ []) ≡ 7 ∷ 7 ∷ []
-  pub r8 : map (λ s. fault luma (onLayout (mapped good [] (0 ∷ 1 ∷ []) s (zeros 4) (replicate 64 1)))) ((0 ∷ 0 ∷ 0 ∷ 2 ∷ []) ∷ (2 ∷ 0 ∷ 0 ∷ 0 ∷ []) ∷ []) ≡ 8 ∷ 8 ∷ []
-  pub r9 : map (λ s. fault luma (onLayout (mapped good [] (0 ∷ 1 ∷ []) (1 ∷ 0 ∷ 0 ∷ 0 ∷ []) s (replicate 64 1)))) ((64 ∷ 64 ∷ 64 ∷ 64 ∷ []) ∷ (0 ∷ 0 ∷ 64 ∷ 64 ∷ []) ∷ []) ≡ 9 ∷ 9 ∷ []
-  pub r9-switch : fault luma (onLayout (mapped good [] (0 ∷ 0 ∷ []) (zeros 4) (zeros 4) (replicate 64 2))) ≡ 9
-  pub r10 : map (λ s. fault luma (onTables s (zeros 32) flat (zeros 1600) [])) (set (zeros 22) 21 8 ∷ []) ≡ 10 ∷ []
-  pub r10-ctb : map (λ k. fault luma (onTables (set (zeros 22) 0 1) (set (zeros 32) (k + 8) (getD (2 ∷ 2 ∷ 2 ∷ 17 ∷ 8 ∷ 8 ∷ 5 ∷ 5 ∷ []) k 0)) flat (zeros 1600) [])) (0 ∷ 1 ∷ 2 ∷ 3 ∷ 4 ∷ 5 ∷ 6 ∷ 7 ∷ [])
-      ≡ replicate 8 10
-  pub r11 : map (λ b. fault luma (onTables (zeros 22) (zeros 32) b (zeros 1600) [])) (set flat 6015 (pos 128) ∷ set flat 0 (negsuc 128) ∷ set flat 12 (negsuc 0) ∷ set flat 606 (pos 257) ∷ [])
-      ≡ replicate 4 11
+  pub columns : map (λ v. virtualBoundariesValid (ofColumns v)) ((8 ∷ []) ∷ (32 ∷ []) ∷ (4 ∷ []) ∷ (40 ∷ []) ∷ (8 ∷ 32 ∷ []) ∷ [])
+      ≡ true ∷ true ∷ false ∷ false ∷ false ∷ []
+  pub r6 : fault luma (onLayout (ofColumns (4 ∷ []))) ≡ 6
+  pub tile-columns : map (λ t. tilesValid (ofTiles t)) ((0 ∷ 1 ∷ []) ∷ (1 ∷ 1 ∷ []) ∷ (0 ∷ 2 ∷ []) ∷ []) ≡ true ∷ false ∷ false ∷ []
+  pub r7 : fault luma (onLayout (ofTiles (0 ∷ 2 ∷ []))) ≡ 7
+  -- slice maps that the corner rule allows, and numbers that are not below the slice count
+  pub slices : map (λ s. slicesValid (ofSlices s)) ((1 ∷ 0 ∷ 0 ∷ 0 ∷ []) ∷ (0 ∷ 0 ∷ 0 ∷ 1 ∷ []) ∷ (0 ∷ 1 ∷ 1 ∷ 0 ∷ []) ∷ (0 ∷ 0 ∷ 1 ∷ 1 ∷ []) ∷ []) ≡ replicate 4 true
+  pub slice-numbers : map (λ s. slicesValid (ofSlices s)) ((0 ∷ 0 ∷ 0 ∷ 2 ∷ []) ∷ (2 ∷ 0 ∷ 0 ∷ 0 ∷ []) ∷ []) ≡ false ∷ false ∷ []
+  pub r8 : fault luma (onLayout (ofSlices (0 ∷ 0 ∷ 0 ∷ 2 ∷ []))) ≡ 8
+  -- the same of subpicture maps, and of switches
+  pub subpictures : map (λ s. subpicturesValid (ofSubpictures s 0)) ((0 ∷ 63 ∷ 0 ∷ 63 ∷ []) ∷ (0 ∷ 1 ∷ 2 ∷ 3 ∷ []) ∷ (0 ∷ 0 ∷ 1 ∷ 2 ∷ []) ∷ (1 ∷ 0 ∷ 0 ∷ 1 ∷ []) ∷ []) ≡ replicate 4 true
+  pub subpicture-numbers : map (λ s. subpicturesValid (ofSubpictures s 1)) ((64 ∷ 64 ∷ 64 ∷ 64 ∷ []) ∷ (0 ∷ 0 ∷ 64 ∷ 64 ∷ []) ∷ []) ≡ false ∷ false ∷ []
+  pub switches : map (λ n. subpicturesValid (ofSubpictures (zeros 4) n)) (0 ∷ 1 ∷ 2 ∷ []) ≡ true ∷ true ∷ false ∷ []
+  pub r9 : fault luma (onLayout (ofSubpictures (0 ∷ 0 ∷ 64 ∷ 64 ∷ []) 1)) ≡ 9
+  -- each number of a CTB at its largest, and one above it
+  pub ctb-largest : map (λ k. parametersValid (ofCtbNumber k (getD (1 ∷ 1 ∷ 1 ∷ 16 ∷ 7 ∷ 7 ∷ 4 ∷ 4 ∷ []) k 0))) (0 ∷ 1 ∷ 2 ∷ 3 ∷ 4 ∷ 5 ∷ 6 ∷ 7 ∷ []) ≡ replicate 8 true
+  pub ctb-above : map (λ k. parametersValid (ofCtbNumber k (getD (2 ∷ 2 ∷ 2 ∷ 17 ∷ 8 ∷ 8 ∷ 5 ∷ 5 ∷ []) k 0))) (0 ∷ 1 ∷ 2 ∷ 3 ∷ 4 ∷ 5 ∷ 6 ∷ 7 ∷ []) ≡ replicate 8 false
+  pub r10 : fault luma (onTables (set (zeros 22) 21 8) (zeros 32) flat (zeros 1600) []) ≡ 10
+  -- clips up to 2^B, where coefficients end at 127: numbers 12 and 606 of an APS are clips, 0 and 751 coefficients
+  pub bank-in : map (λ n. bankNumberValid 8 n (pos 256)) (12 ∷ 606 ∷ []) ++ map (λ n. bankNumberValid 8 n (negsuc 127)) (0 ∷ 751 ∷ []) ≡ replicate 4 true
+  pub bank-out : bankNumberValid 8 12 (negsuc 0) ∷ bankNumberValid 8 606 (pos 257) ∷ bankNumberValid 8 0 (negsuc 128) ∷ bankNumberValid 8 751 (pos 128) ∷ [] ≡ replicate 4 false
+  pub r11 : fault luma (onTables (zeros 22) (zeros 32) (set flat 6015 (pos 128)) (zeros 1600) []) ≡ 11
   pub r12 : fault luma (onTables (zeros 22) (zeros 32) flat (set (zeros 1600) 1599 256) []) ≡ 12
   pub r13 : fault luma (onTables (zeros 22) (zeros 32) flat (zeros 1600) (0 ∷ 4 ∷ [])) ≡ 13
   pub r14 : isolationFault (plain good) (set (zeros 25) 24 2) ≡ 14
@@ -98,27 +124,36 @@ pub record Rejections : Type 0 where
 pub rejections : Rejections
 unfolding allBelow everyFrom ctbSize subWidth subHeight planeOf sliceOf ctbParam sliceParam pictureSizeValid ctbSizeValid bitDepthValid chromaFormatValid componentValid layoutLengthsValid filterLengthsValid fixedLengthsValid lengthsValid apartAt virtualListValid virtualBoundariesValid followsAt tileListValid tilesValid cornerAt cornersInRow cornersValid slicesValid subpicturesValid sliceParamsValid ctbRangesValid ctbChromaZero ctbParamsValidAt parametersValid coeffValid clipValid isClip bankNumberValid bankValid fixedValid samplesValid addressesValid regionLengthValid regionValid unless layoutFault tablesFault fault isolationFault
 rejections = record {
-  widths = refl;
   accepts = refl;
   accepts-chroma = refl;
   accepts-classes = refl;
   accepts-region = refl;
-  accepts-clips = refl;
-  accepts-slices = refl;
-  accepts-subpictures = refl;
+  widths = refl;
   r1 = refl;
+  exponents = refl;
   r2 = refl;
+  depths = refl;
   r3 = refl;
   r4 = refl;
+  counts = refl;
   r5 = refl;
   r5-output = refl;
+  columns = refl;
   r6 = refl;
+  tile-columns = refl;
   r7 = refl;
+  slices = refl;
+  slice-numbers = refl;
   r8 = refl;
+  subpictures = refl;
+  subpicture-numbers = refl;
+  switches = refl;
   r9 = refl;
-  r9-switch = refl;
+  ctb-largest = refl;
+  ctb-above = refl;
   r10 = refl;
-  r10-ctb = refl;
+  bank-in = refl;
+  bank-out = refl;
   r11 = refl;
   r12 = refl;
   r13 = refl;

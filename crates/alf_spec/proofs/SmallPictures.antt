@@ -1,5 +1,6 @@
--- Small pictures worked out by the definitions: classes and the three filters, with rows on both sides of the line-buffer boundary. The numbers were
--- found by a separate model of H.266 and paper 01 that goes sample by sample. Assumes nothing.
+-- Samples of small pictures worked out by the definitions: classes and the three filters, with rows on both sides of the line-buffer boundary. The
+-- numbers were found by a separate model of H.266 and paper 01 that goes sample by sample. Whole pictures stand in the crate `spec_examples`, since they
+-- take long to compute. Assumes nothing.
 use mathlib.Core.Path.{_≡_, refl}
 use mathlib.Core.Bool.{Bool, true, false, _&&_, _||_, cond}
 use mathlib.Core.List.{List, [], _∷_, _++_, map}
@@ -7,7 +8,7 @@ use Prim.Native.Nat.{ℕ, zero, suc, _+_, _*_, _/_, _%_}
 use lib.IntN.{pos, _-ℤ_}
 use lib.Dec.{leb, ltb}
 use lib.ListN.{replicate}
-use Rattle.alf_spec.specs.Input.{Input, classes, luma, chroma, crossComponent}
+use Rattle.alf_spec.specs.Input.{Input, classes}
 use Rattle.alf_spec.specs.Lists.{allBelow, everyFrom, elem, sumBelow, sumBelowℤ, tabulate, painted}
 use Rattle.alf_spec.specs.Arithmetic.{clip3, distance, rounded, clipSample, clippedChange, tap, tapSum, filtered}
 use Rattle.alf_spec.specs.Geometry.{lumaPlane, ctbSize, subWidth, subHeight, planeOf, lineRule, bottomDistance}
@@ -19,7 +20,6 @@ use Rattle.alf_spec.specs.Luma.{lumaF, lumaC, tapOrder, lumaRows, lumaPl
 use Rattle.alf_spec.specs.Chroma.{chromaRows, chromaPlus, chromaMinus, chromaWith, chromaSample}
 use Rattle.alf_spec.specs.CrossComponent.{crossRows, crossTaps, crossSum, corrected, crossWith, crossSample}
 use Rattle.alf_spec.specs.Process.{classAt, classMap, lumaOn, isFiltered, atIndex, filteredPlane, result}
-use Rattle.alf_spec.specs.Faults.{pictureSizeValid, ctbSizeValid, bitDepthValid, chromaFormatValid, componentValid, layoutLengthsValid, filterLengthsValid, fixedLengthsValid, lengthsValid, apartAt, virtualListValid, virtualBoundariesValid, followsAt, tileListValid, tilesValid, cornerAt, cornersInRow, cornersValid, slicesValid, subpicturesValid, sliceParamsValid, ctbRangesValid, ctbChromaZero, ctbParamsValidAt, parametersValid, coeffValid, clipValid, isClip, bankNumberValid, bankValid, fixedValid, samplesValid, addressesValid, unless, layoutFault, tablesFault, fault}
 use Rattle.alf_spec.proofs.Examples.{picture, layout}
 use Rattle.alf_spec.proofs.WorkedExamples.{grid, input}
 
@@ -36,7 +36,7 @@ texture width n = map (λ k. 300 + (k % width * 53 + k / width * 11 + k % width 
 abbrev clipPlace : ℕ → Bool
 clipPlace n = (ltb n 600 && leb 12 (n % 24)) || (leb 600 n && (ltb n 696 && leb 6 (n % 12)))
 
-abbrev ctb32 : Input
+abbrev pub ctb32 : Input
 ctb32 = record {
   layout = layout (picture 32 32 5 10 1 1) [] (0 ∷ []) (0 ∷ []) (0 ∷ []) (0 ∷ []) (replicate 64 1);
   luma = texture 32 1024;
@@ -71,15 +71,8 @@ abbrev filteredAt : Input → List Bool
 filteredAt i = map (isFiltered i (lumaPlane (i .layout)) (lumaOn i)) (31 ∷ 32 ∷ 95 ∷ 96 ∷ [])
 
 pub record SmallPictures : Type 0 where
-  -- P12's picture is accepted, and whole: its classes, and its luma plane filtered with clip 3
-  pub accepted : fault luma (input 16 3) ≡ 0
+  -- the classes of P12's picture
   pub class-map : result classes (input 16 3) ≡ 17 ∷ 96 ∷ 17 ∷ 84 ∷ []
-  pub luma-plane : result luma (input 16 3)
-      ≡ (10 ∷ 10 ∷ 10 ∷ 10 ∷ 12 ∷ 10 ∷ 10 ∷ 10 ∷ [])
-      ++ (10 ∷ 10 ∷ 10 ∷ 12 ∷ 11 ∷ 10 ∷ 10 ∷ 10 ∷ [])
-      ++ (29 ∷ 12 ∷ 10 ∷ 10 ∷ 12 ∷ 10 ∷ 10 ∷ 10 ∷ [])
-      ++ (29 ∷ 12 ∷ 10 ∷ 10 ∷ 10 ∷ 10 ∷ 10 ∷ 10 ∷ [])
-      ++ replicate 32 10
   -- of the texture: the classes of three blocks, one above the other, at column 8 and rows 20, 24 and 28
   pub line-classes : map (classAt (ctb32 .layout) (ctb32 .luma)) (42 ∷ 50 ∷ 58 ∷ []) ≡ 67 ∷ 100 ∷ 35 ∷ []
   -- luma at column 9, rows 23 to 31; chroma and cross-component at column 3, rows 10 to 15
@@ -90,21 +83,15 @@ pub record SmallPictures : Type 0 where
   pub listed : map (λ list. filteredAt (twoCtbs 1 1 list)) ([] ∷ (1 ∷ []) ∷ (0 ∷ 1 ∷ []) ∷ (1 ∷ 1 ∷ 0 ∷ []) ∷ [])
       ≡ replicate 4 false ∷ (false ∷ true ∷ false ∷ true ∷ []) ∷ replicate 4 true ∷ replicate 4 true ∷ []
   pub flag-off : filteredAt (twoCtbs 1 0 (1 ∷ 0 ∷ [])) ≡ true ∷ false ∷ true ∷ false ∷ []
-  pub chroma-accepted : fault (chroma 0) ctb32 ≡ 0
-  pub cross-accepted : fault (crossComponent 1) ctb32 ≡ 0
 
 pub small-pictures : SmallPictures
-unfolding allBelow everyFrom elem sumBelow sumBelowℤ tabulate painted clip3 distance rounded clipSample clippedChange tap tapSum filtered ctbSize subWidth subHeight planeOf lineRule bottomDistance sliceOf subpicOf tileColumnOf tileRowOf tileDisables sliceDisables subpicDisables columnDisabled rowDisabled cornerDisabled find lineClip virtualClip sideClip clipPosition columnClip rowClip paddedRow pastCorner paddedColumn read ctbParam sliceParam bankNumber fixedCoeff classWindow filtH filtV filtD0 filtD1 windowRows windowSum windowSums larger diagonal mainGradient otherGradient strength activity transposeIdx filtIdx classOfSums classOf blockClass lumaF lumaC tapOrder lumaRows lumaPlus lumaMinus lumaWith lumaSample chromaRows chromaPlus chromaMinus chromaWith chromaSample crossRows crossTaps crossSum corrected crossWith crossSample classAt classMap lumaOn isFiltered atIndex filteredPlane result pictureSizeValid ctbSizeValid bitDepthValid chromaFormatValid componentValid layoutLengthsValid filterLengthsValid fixedLengthsValid lengthsValid apartAt virtualListValid virtualBoundariesValid followsAt tileListValid tilesValid cornerAt cornersInRow cornersValid slicesValid subpicturesValid sliceParamsValid ctbRangesValid ctbChromaZero ctbParamsValidAt parametersValid coeffValid clipValid isClip bankNumberValid bankValid fixedValid samplesValid addressesValid unless layoutFault tablesFault fault
+unfolding allBelow everyFrom elem sumBelow sumBelowℤ tabulate painted clip3 distance rounded clipSample clippedChange tap tapSum filtered ctbSize subWidth subHeight planeOf lineRule bottomDistance sliceOf subpicOf tileColumnOf tileRowOf tileDisables sliceDisables subpicDisables columnDisabled rowDisabled cornerDisabled find lineClip virtualClip sideClip clipPosition columnClip rowClip paddedRow pastCorner paddedColumn read ctbParam sliceParam bankNumber fixedCoeff classWindow filtH filtV filtD0 filtD1 windowRows windowSum windowSums larger diagonal mainGradient otherGradient strength activity transposeIdx filtIdx classOfSums classOf blockClass lumaF lumaC tapOrder lumaRows lumaPlus lumaMinus lumaWith lumaSample chromaRows chromaPlus chromaMinus chromaWith chromaSample crossRows crossTaps crossSum corrected crossWith crossSample classAt classMap lumaOn isFiltered atIndex filteredPlane result
 small-pictures = record {
-  accepted = refl;
   class-map = refl;
-  luma-plane = refl;
   line-classes = refl;
   line-luma = refl;
   line-chroma = refl;
   line-cross = refl;
   listed = refl;
   flag-off = refl;
-  chroma-accepted = refl;
-  cross-accepted = refl;
 }

@@ -1,0 +1,3 @@
+-- Claims about whole pictures.
+pub mod RewrittenOutside
+pub mod WholePictures
