@@ -16,9 +16,9 @@ use Rattle.alf_spec.proofs.Tests.{cond-either}
 use Rattle.alf_spec.proofs.IsolatedRegions.Ratios.{Ratio, whole, half, chroma-ratios}
 use Rattle.alf_math.proofs.Grids.{width-bounds, height-bounds, depth-bounds}
 use Rattle.alf_pieces.specs.declared.pieces.Piece.{Piece}
-use Rattle.alf_pieces.specs.Regions.{between}
+use Rattle.alf_lists.specs.Regions.{between}
 use Rattle.alf_pieces.specs.Copies.{extent, pitch}
-use Rattle.alf_pieces.proofs.Regions.{run-facts, row-of, row-room}
+use Rattle.alf_lists.proofs.Regions.{run-facts, row-of, row-room}
 use Rattle.alf_chroma.specs.Samples.{pieceSampleFrom}
 use Rattle.alf_chroma.specs.Pieces.{RowsWork, rowsAt, copyChromaAt}
 

@@ -22,17 +22,18 @@ use Rattle.alf_spec.proofs.IsolatedRegions.Ratios.{chroma-ratios}
 use Rattle.alf_spec.proofs.IsolatedRegions.TapPositions.{ChromaOffsets, chroma-offsets}
 use Rattle.alf_math.specs.Grids.{GridOf}
 use Rattle.alf_pieces.specs.declared.pieces.Piece.{Piece}
-use Rattle.alf_pieces.specs.Regions.{between, inRect}
+use Rattle.alf_lists.specs.Regions.{between, inRect}
 use Rattle.alf_pieces.specs.Pieces.{PieceOf, CtbOf}
 use Rattle.alf_pieces.specs.Copies.{extent, pitch, copyLength, copyAt}
-use Rattle.alf_pieces.proofs.Regions.{Inside, rect-facts}
+use Rattle.alf_lists.proofs.Regions.{Inside, rect-facts}
 use Rattle.alf_pieces.proofs.CtbPieces.{column-facts, row-facts}
 use Rattle.alf_pieces.proofs.CopyReads.{own-ctb}
 use Rattle.alf_pieces.proofs.CopyHolds.{copy-holds}
 use Rattle.alf_pieces.proofs.CopySamples.{chroma-in}
 use Rattle.alf_taps.proofs.SpreadTaps.{taps-same}
 use Rattle.alf_chroma.specs.Samples.{copyPlus, copyMinus, copySample, pieceSample}
-use Rattle.alf_chroma.specs.Pieces.{ChromaFilter, Spread, copyChromaAt}
+use Rattle.alf_params.specs.Filters.{ChromaFilter}
+use Rattle.alf_chroma.specs.Pieces.{Spread, copyChromaAt}
 
 -- the columns of the plane, as code has them
 pub columns-wide : (l : Layout) {p : Picture} {ratio : ℕ} → l .picture ≡ p → ratio ≡ subWidth p → samples (chromaPlane l .columns) ≡ p .width / ratio

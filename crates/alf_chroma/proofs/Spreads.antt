@@ -10,11 +10,11 @@ use lib.IntN.{ℤ, pos}
 use lib.ListN.{getD}
 use Rattle.alf_spec.proofs.Tests.{never, same-test, cond-either}
 use Rattle.alf_math.specs.Integers.{CoeffRange, ClipRange}
-use Rattle.alf_pieces.specs.Regions.{between}
-use Rattle.alf_pieces.specs.Filled.{Filled}
-use Rattle.alf_pieces.proofs.Painted.{fill-out}
-use Rattle.alf_pieces.proofs.Regions.{in-run, run-facts}
-use Rattle.alf_taps.specs.Spread.{clipPlace, TapNumbers, same}
+use Rattle.alf_lists.specs.Regions.{between}
+use Rattle.alf_lists.specs.Filled.{Filled, same}
+use Rattle.alf_lists.proofs.Painted.{fill-out}
+use Rattle.alf_lists.proofs.Regions.{in-run, run-facts}
+use Rattle.alf_taps.specs.Spread.{clipPlace, TapNumbers}
 use Rattle.alf_chroma.specs.Pieces.{Spread}
 
 -- before a run, or after it

@@ -23,12 +23,7 @@ use Rattle.alf_pieces.specs.Copies.{pitch, copyLength, area}
 use Rattle.alf_taps.specs.Spread.{spreadCoeff, spreadClip, TapNumbers}
 use Rattle.alf_chroma.specs.Samples.{pieceSample}
 
--- ---- a filter: 6 coefficients, and then 6 clips
-
--- (1506), (1507): the one that a CTB of an input has for a component
-pub record ChromaFilter (i : Input) (c : Ctb) (component : ℕ) (filters : List ℤ) : Type 0 where
-  pub coefficients : (j : ℕ) → j < 6 → getD filters j (pos 0) ≡ chromaCoeff i (chromaAps i c) (chromaAlternative i c component) j
-  pub clips : (j : ℕ) → j < 6 → getD filters (6 + j) (pos 0) ≡ chromaClip i (chromaAps i c) (chromaAlternative i c component) j
+-- ---- a filter: 6 coefficients, and then 6 clips (`ChromaFilter`)
 
 -- the numbers of its first `count` taps stand in the first n columns
 pub record Spread (filters : List ℤ) (count n : ℕ) (taps : List ℤ) : Type 0 where

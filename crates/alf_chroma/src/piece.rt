@@ -11,11 +11,12 @@ ghost use Rattle.alf_spec.specs.Chroma.{chromaSample};
 ghost use Rattle.alf_spec.specs.Process.{atIndex};
 ghost use Rattle.alf_spec.specs.declared.Ctb.{Ctb};
 ghost use Rattle.alf_math.specs.Integers.{CoeffRange, ClipRange};
-ghost use Rattle.alf_pieces.specs.Regions.{between, inRect};
+ghost use Rattle.alf_lists.specs.Regions.{between, inRect};
 ghost use Rattle.alf_pieces.specs.Pieces.{PieceIn, PieceOf, CtbOf};
 ghost use Rattle.alf_taps.specs.Spread.{TapNumbers};
 ghost use Rattle.alf_chroma.specs.Samples.{pieceSampleFrom};
-ghost use Rattle.alf_chroma.specs.Pieces.{Spread, RowsWork, ChromaWork, ChromaFilter, copyChromaAt};
+ghost use Rattle.alf_params.specs.Filters.{ChromaFilter};
+ghost use Rattle.alf_chroma.specs.Pieces.{Spread, RowsWork, ChromaWork, copyChromaAt};
 use crate::kernel::chroma_row;
 use crate::rows::rows_at;
 use alf_math::grid::sub_height;
@@ -29,7 +30,7 @@ use alf_spec::Picture;
 use alf_spec::Sides;
 use alf_taps::CLIPS;
 use alf_taps::COLUMNS;
-use alf_taps::fill;
+use alf_lists::fill;
 
 // The taps of a chroma filter: so many coefficients, and then as many clips.
 const TAPS: usize = 6;

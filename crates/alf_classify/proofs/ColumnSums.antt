@@ -7,10 +7,10 @@ use native.Mathlib.Omega.{arith}
 use lib.ListN.{length, getD}
 use Rattle.alf_spec.specs.Lists.{sumBelow}
 use Rattle.alf_spec.proofs.Lists.{sum-same}
-use Rattle.alf_pieces.specs.Regions.{between}
+use Rattle.alf_lists.specs.Regions.{between}
 use Rattle.alf_pieces.specs.Copies.{area}
-use Rattle.alf_pieces.proofs.Painted.{Paint, paint-in, paint-again}
-use Rattle.alf_pieces.proofs.Regions.{in-run}
+use Rattle.alf_lists.proofs.Painted.{Paint, paint-in, paint-again}
+use Rattle.alf_lists.proofs.Regions.{in-run}
 use Rattle.alf_classify.specs.Windows.{pairAt, columnSum, blockSum, SmallRun, columnFrom, pairAdded, fourColumns, columnSums, blockSums}
 
 module _ (d : List ℕ) (pitch k : ℕ) where

@@ -8,10 +8,10 @@ use native.Mathlib.Omega.{arith}
 use lib.ListN.{length, getD}
 use Rattle.alf_spec.specs.Arithmetic.{distance}
 use Rattle.alf_spec.proofs.Tests.{never}
-use Rattle.alf_pieces.specs.Regions.{between}
+use Rattle.alf_lists.specs.Regions.{between}
 use Rattle.alf_pieces.specs.Copies.{area}
-use Rattle.alf_pieces.proofs.Painted.{Paint, paint-in, paint-out}
-use Rattle.alf_pieces.proofs.Regions.{in-run, run-facts}
+use Rattle.alf_lists.proofs.Painted.{Paint, paint-in, paint-out}
+use Rattle.alf_lists.proofs.Regions.{in-run, run-facts}
 use Rattle.alf_classify.specs.Windows.{differenceAt, differenceFrom, Differences, SmallRun, SmallRuns}
 
 -- a run over the first n samples of the copy, but for m of them at each end, that writes from place `at` on

@@ -20,10 +20,10 @@ use Rattle.alf_spec.proofs.Lists.{tabulate-same}
 use Rattle.alf_spec.proofs.IsolatedRegions.Ratios.{whole}
 use Rattle.alf_math.specs.Grids.{GridOf}
 use Rattle.alf_pieces.specs.declared.pieces.Piece.{Piece}
-use Rattle.alf_pieces.specs.Regions.{between, inRect}
+use Rattle.alf_lists.specs.Regions.{between, inRect}
 use Rattle.alf_pieces.specs.Pieces.{PieceOf, BlockPiece, CtbOf}
 use Rattle.alf_pieces.specs.Copies.{pitch, copyLength, copyAt}
-use Rattle.alf_pieces.proofs.Regions.{rect-facts}
+use Rattle.alf_lists.proofs.Regions.{rect-facts}
 use Rattle.alf_pieces.proofs.PieceWalk.{block-piece}
 use Rattle.alf_pieces.proofs.CtbPieces.{column-facts, row-facts}
 use Rattle.alf_pieces.proofs.CopySamples.{window-in}

@@ -13,8 +13,8 @@ use Rattle.alf_spec.specs.Process.{classNumber}
 use Rattle.alf_pieces.specs.declared.pieces.Piece.{Piece}
 use Rattle.alf_pieces.specs.Pieces.{BlockPiece}
 use Rattle.alf_pieces.specs.Copies.{extent, pitch as pitchOf, copyLength, area}
-use Rattle.alf_pieces.specs.Regions.{between}
-use Rattle.alf_pieces.proofs.Regions.{run-facts, row-of, row-room}
+use Rattle.alf_lists.specs.Regions.{between}
+use Rattle.alf_lists.proofs.Regions.{run-facts, row-of, row-room}
 use Rattle.alf_pieces.proofs.CopyRooms.{copy-fits}
 use Rattle.alf_classify.specs.Windows.{copyWindow, Differences, blockSums, SmallRuns, rowClass}
 use Rattle.alf_classify.specs.Work.{rowWindow, copyClassAt}

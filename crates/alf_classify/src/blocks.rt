@@ -5,7 +5,7 @@ ghost use lib.ListN.{length, getD};
 ghost use Rattle.alf_spec.specs.Lists.{painted};
 ghost use Rattle.alf_spec.specs.Classes.{classOfSums};
 ghost use Rattle.alf_spec.specs.Process.{classNumber};
-ghost use Rattle.alf_pieces.specs.Regions.{between, inRect};
+ghost use Rattle.alf_lists.specs.Regions.{between, inRect};
 ghost use Rattle.alf_pieces.specs.Pieces.{BlockPiece};
 ghost use Rattle.alf_pieces.specs.Copies.{area, extent, copyLength};
 ghost use Rattle.alf_classify.specs.Windows.{SmallRuns, columnSums, columnClass, rowClass};

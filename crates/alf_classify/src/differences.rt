@@ -3,7 +3,7 @@ ghost use mathlib.Core.Path.{_≡_};
 ghost use Prim.Native.Nat.{ℕ, _+_, _-_, _*_, _≤_, _<_};
 ghost use lib.ListN.{length, getD};
 ghost use Rattle.alf_spec.specs.Lists.{painted};
-ghost use Rattle.alf_pieces.specs.Regions.{between};
+ghost use Rattle.alf_lists.specs.Regions.{between};
 ghost use Rattle.alf_pieces.specs.Copies.{area};
 ghost use Rattle.alf_classify.specs.Windows.{differenceAt, differenceFrom, Differences};
 use alf_math::windows::second_difference;

@@ -11,7 +11,7 @@ ghost use Rattle.alf_spec.specs.Process.{classAt, classMap};
 ghost use Rattle.alf_spec.specs.Faults.{virtualListValid, fault};
 ghost use Rattle.alf_spec.specs.declared.Ctb.{Ctb};
 ghost use Rattle.alf_math.specs.Grids.{GridOf};
-ghost use Rattle.alf_pieces.specs.Regions.{inRect};
+ghost use Rattle.alf_lists.specs.Regions.{inRect};
 ghost use Rattle.alf_pieces.specs.Pieces.{PieceOf, BlockPiece, CtbOf};
 ghost use Rattle.alf_pieces.specs.Copies.{area};
 ghost use Rattle.alf_pieces.specs.CtbRegions.{ofCtb};

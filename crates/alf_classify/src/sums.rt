@@ -3,7 +3,7 @@ ghost use mathlib.Core.Path.{_≡_};
 ghost use Prim.Native.Nat.{ℕ, _+_, _-_, _*_, _^_, _≤_, _<_};
 ghost use lib.ListN.{length, getD};
 ghost use Rattle.alf_spec.specs.Lists.{painted};
-ghost use Rattle.alf_pieces.specs.Regions.{between};
+ghost use Rattle.alf_lists.specs.Regions.{between};
 ghost use Rattle.alf_classify.specs.Windows.{pairAt, columnSum, SmallRun, columnFrom, pairAdded, fourColumns};
 
 // At an even column, the two samples of a 2 by 2 cell that count: those whose offsets are both even, and both odd. At an odd column it is of no use.

@@ -15,10 +15,10 @@ use Rattle.alf_spec.specs.Geometry.{subWidth, subHeight}
 use Rattle.alf_spec.specs.CrossComponent.{crossRows, crossTaps, crossSum, corrected}
 use Rattle.alf_spec.proofs.IsolatedRegions.Ratios.{Ratio, whole, half, chroma-ratios, le-own, lt-own}
 use Rattle.alf_pieces.specs.declared.pieces.Piece.{Piece}
-use Rattle.alf_pieces.specs.Regions.{between}
+use Rattle.alf_lists.specs.Regions.{between}
 use Rattle.alf_pieces.specs.Pieces.{BlockPiece}
 use Rattle.alf_pieces.specs.Copies.{extent, pitch}
-use Rattle.alf_pieces.proofs.Regions.{run-facts, row-of}
+use Rattle.alf_lists.proofs.Regions.{run-facts, row-of}
 use Rattle.alf_cross.specs.Taps.{last, splitPlace, seven, RowReads, splitTaps, splitSum, rowSample, offsetSample}
 use Rattle.alf_cross.specs.Work.{SmallCopy, rowOffsets, splitRead, pieceSum, splitCrossAt}
 use Rattle.alf_cross.proofs.SplitColumns.{place-next}

@@ -25,10 +25,10 @@ use Rattle.alf_spec.proofs.Axes.{ctb-of}
 use Rattle.alf_spec.proofs.IsolatedRegions.Ratios.{whole, chroma-ratios, le-own, lt-own}
 use Rattle.alf_math.specs.Grids.{GridOf}
 use Rattle.alf_pieces.specs.declared.pieces.Piece.{Piece}
-use Rattle.alf_pieces.specs.Regions.{between, inRect}
+use Rattle.alf_lists.specs.Regions.{between, inRect}
 use Rattle.alf_pieces.specs.Pieces.{PieceOf, CtbOf}
 use Rattle.alf_pieces.specs.Copies.{extent, pitch, copyLength, copyAt}
-use Rattle.alf_pieces.proofs.Regions.{Inside, rect-facts}
+use Rattle.alf_lists.proofs.Regions.{Inside, rect-facts}
 use Rattle.alf_pieces.proofs.CtbPieces.{column-facts, row-facts}
 use Rattle.alf_pieces.proofs.CopyHolds.{copy-holds}
 use Rattle.alf_pieces.proofs.CopySamples.{luma-in}

@@ -11,10 +11,10 @@ use borrow.Author.Count.{below-more}
 use borrow.Author.Tests.{ne-eqb}
 use Rattle.alf_spec.specs.Lists.{painted}
 use Rattle.alf_spec.proofs.IsolatedRegions.Ratios.{Ratio, whole, half}
-use Rattle.alf_pieces.specs.Regions.{between}
+use Rattle.alf_lists.specs.Regions.{between}
 use Rattle.alf_pieces.specs.Copies.{runAt}
-use Rattle.alf_pieces.proofs.Painted.{paint-of, paint-in}
-use Rattle.alf_pieces.proofs.Regions.{order, in-run, row-room}
+use Rattle.alf_lists.proofs.Painted.{paint-of, paint-in}
+use Rattle.alf_lists.proofs.Regions.{order, in-run, row-room}
 use Rattle.alf_cross.specs.Taps.{splitPlace, SplitRow, Split}
 use Rattle.alf_cross.specs.Work.{SmallCopy}
 

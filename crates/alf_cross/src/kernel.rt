@@ -8,7 +8,7 @@ ghost use lib.IntN.{pos, natAbs, _+ℤ_, _-ℤ_, _*ℤ_};
 ghost use Rattle.alf_spec.specs.Lists.{painted};
 ghost use Rattle.alf_spec.specs.Arithmetic.{clip3, clipSample};
 ghost use Rattle.alf_spec.specs.CrossComponent.{corrected as correctedBy};
-ghost use Rattle.alf_pieces.specs.Regions.{between};
+ghost use Rattle.alf_lists.specs.Regions.{between};
 ghost use Rattle.alf_cross.specs.Taps.{Reads, SmallTaps, last, splitSum, rowSample};
 use alf_math::rounding::rounded;
 use alf_math::rounding::top_level;

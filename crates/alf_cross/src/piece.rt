@@ -9,7 +9,7 @@ ghost use Rattle.alf_spec.specs.Boundary.{columnDisabled, rowDisabled};
 ghost use Rattle.alf_spec.specs.CrossComponent.{crossSample};
 ghost use Rattle.alf_spec.specs.Process.{atIndex};
 ghost use Rattle.alf_spec.specs.declared.Ctb.{Ctb};
-ghost use Rattle.alf_pieces.specs.Regions.{between, inRect};
+ghost use Rattle.alf_lists.specs.Regions.{between, inRect};
 ghost use Rattle.alf_pieces.specs.Pieces.{PieceOf, BlockPiece, CtbOf};
 ghost use Rattle.alf_pieces.specs.Copies.{extent as extentOf, copyLength};
 ghost use Rattle.alf_cross.specs.Work.{ChromaWork, CrossWork, SmallCopy, CrossFilter, splitCrossAt};

@@ -5,7 +5,7 @@ ghost use lib.IntN.{pos, natAbs};
 ghost use lib.ListN.{length, getD};
 ghost use Rattle.alf_spec.specs.Lists.{painted};
 ghost use Rattle.alf_spec.specs.CrossComponent.{crossRows};
-ghost use Rattle.alf_pieces.specs.Regions.{between};
+ghost use Rattle.alf_lists.specs.Regions.{between};
 ghost use Rattle.alf_cross.specs.Taps.{last, splitPlace, RowReads, offsetSample};
 ghost use Rattle.alf_cross.specs.Work.{rowOffsets};
 use crate::kernel::cross_row;

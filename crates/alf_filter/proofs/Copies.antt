@@ -6,10 +6,10 @@ use native.Mathlib.Omega.{arith}
 use lib.ListN.{length, getD}
 use lib.Seq.{ext-getD}
 use Rattle.alf_spec.specs.Lists.{painted}
-use Rattle.alf_pieces.specs.Regions.{between}
+use Rattle.alf_lists.specs.Regions.{between}
 use Rattle.alf_pieces.specs.Copies.{runAt}
-use Rattle.alf_pieces.proofs.Painted.{paint-of, paint-in}
-use Rattle.alf_pieces.proofs.Regions.{in-run}
+use Rattle.alf_lists.proofs.Painted.{paint-of, paint-in}
+use Rattle.alf_lists.proofs.Regions.{in-run}
 
 pub plane-copied : (plane old : List ℕ) {new : List ℕ} → length plane ≡ length old → new ≡ painted old (between 0 (length plane)) (runAt plane 0 0) → new ≡ plane
 unfolding runAt

@@ -12,7 +12,7 @@ use Rattle.alf_spec.specs.Process.{outputPlane}
 use Rattle.alf_spec.proofs.Accepted.{Accepted}
 use Rattle.alf_spec.proofs.IsolatedRegions.Ratios.{Ratio, whole, half}
 use Rattle.alf_math.specs.Grids.{GridOf}
-use Rattle.alf_pieces.specs.Regions.{inRect}
+use Rattle.alf_lists.specs.Regions.{inRect}
 use Rattle.alf_pieces.specs.CtbRegions.{ofCtb}
 use Rattle.alf_pieces.proofs.CtbRegions.{ctb-painted}
 use Rattle.alf_filter.specs.declared.Filter.{Filter}

@@ -14,7 +14,7 @@ use Rattle.alf_spec.proofs.Accepted.{Accepted}
 use Rattle.alf_spec.proofs.IsolatedRegions.Ratios.{Ratio}
 use Rattle.alf_pieces.specs.CtbRegions.{addressAt, ofCtb, beforeCtb}
 use Rattle.alf_pieces.proofs.CtbRegions.{no-ctb, next-ctb, column-in, row-in, every-ctb}
-use Rattle.alf_pieces.proofs.Painted.{paint-is, paint-of, paint-none, paint-same}
+use Rattle.alf_lists.proofs.Painted.{paint-is, paint-of, paint-none, paint-same}
 use Rattle.alf_filter.specs.declared.Filter.{Filter}
 use Rattle.alf_filter.specs.Filters.{operationOf, columnRatio, rowRatio}
 use Rattle.alf_filter.specs.Regions.{ofCtbIf, filteredBefore}

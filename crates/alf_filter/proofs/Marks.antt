@@ -6,7 +6,7 @@ use Prim.Native.Nat.{ℕ, zero, _<_}
 use lib.Dec.{eqb}
 use lib.ListN.{getD, replicate, getD-replicate, length-replicate}
 use Rattle.alf_spec.specs.Lists.{elem, painted}
-use Rattle.alf_pieces.proofs.Painted.{paint-of}
+use Rattle.alf_lists.proofs.Painted.{paint-of}
 use Rattle.alf_filter.specs.Regions.{isListed, marked}
 
 by-mark : (b : Bool) → eqb (cond b 1 0) 1 ≡ b

@@ -20,12 +20,12 @@ use Rattle.alf_spec.specs.CrossComponent.{crossSample}
 use Rattle.alf_spec.specs.Process.{atIndex}
 use Rattle.alf_spec.proofs.IsolatedRegions.Ratios.{Ratio, whole, half, boundary, chroma-ratios}
 use Rattle.alf_pieces.specs.declared.pieces.Piece.{Piece}
-use Rattle.alf_pieces.specs.Regions.{inRect}
+use Rattle.alf_lists.specs.Regions.{inRect}
 use Rattle.alf_pieces.specs.Pieces.{scaled, PieceOf, PieceIn, BlockPiece, CtbOf}
 use Rattle.alf_pieces.proofs.ScaledPieces.{scaled-piece}
-use Rattle.alf_luma.specs.Filters.{LumaFilters}
+use Rattle.alf_params.specs.Filters.{LumaFilters, ChromaFilter}
 use Rattle.alf_luma.specs.Samples.{LumaWork}
-use Rattle.alf_chroma.specs.Pieces.{ChromaFilter, ChromaWork}
+use Rattle.alf_chroma.specs.Pieces.{ChromaWork}
 use Rattle.alf_cross.specs.Work.{CrossFilter, CrossWork}
 use Rattle.alf_filter.specs.declared.Filter.{Filter}
 use Rattle.alf_filter.specs.declared.Filter.the-variants.{Luma, Chroma, CrossComponent}

@@ -9,8 +9,7 @@ use Rattle.alf_spec.specs.declared.Ctb.{Ctb}
 use Rattle.alf_spec.specs.Input.{Input}
 use Rattle.alf_spec.specs.Parameters.{crossAps, crossIndex, crossCoeff}
 use Rattle.alf_math.specs.Integers.{CoeffRange, ClipRange}
-use Rattle.alf_luma.specs.Filters.{LumaFilters, FilterNumbers}
-use Rattle.alf_chroma.specs.Pieces.{ChromaFilter}
+use Rattle.alf_params.specs.Filters.{LumaFilters, FilterNumbers, ChromaFilter}
 use Rattle.alf_params.specs.Tables.{TablesOf, FixedOf}
 use Rattle.alf_filter.specs.declared.Filter.{Filter}
 use Rattle.alf_filter.specs.declared.Filter.the-variants.{Luma, Chroma, CrossComponent}

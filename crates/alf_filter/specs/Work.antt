@@ -18,11 +18,12 @@ use Rattle.alf_spec.specs.Faults.{pictureSizeValid, ctbSizeValid, bitDepthValid
 use Rattle.alf_math.specs.Grids.{GridOf}
 use Rattle.alf_math.specs.Integers.{CoeffRange, ClipRange}
 use Rattle.alf_pieces.specs.declared.pieces.Piece.{Piece}
-use Rattle.alf_pieces.specs.Regions.{inRect}
+use Rattle.alf_lists.specs.Regions.{inRect}
 use Rattle.alf_pieces.specs.Pieces.{PieceOf, CtbOf}
 use Rattle.alf_pieces.specs.Copies.{area}
 use Rattle.alf_taps.specs.Spread.{TapNumbers}
-use Rattle.alf_luma.specs.Filters.{FilterNumbers, Places}
+use Rattle.alf_params.specs.Filters.{FilterNumbers}
+use Rattle.alf_luma.specs.Filters.{Places}
 use Rattle.alf_filter.specs.declared.Filter.{Filter}
 use Rattle.alf_filter.specs.declared.Filter.the-variants.{Luma, Chroma, CrossComponent}
 use Rattle.alf_filter.specs.Filters.{operationOf, columnRatio, rowRatio, sampleOf, OwnFilter}

@@ -8,8 +8,9 @@ use lib.IntN.{ℤ, pos, natAbs}
 use lib.ListN.{getD, List·getD-eq-default}
 use borrow.Author.Tests.{lt-ltb, le-ltb}
 use Rattle.alf_spec.proofs.TapOrder.{each-below}
-use Rattle.alf_pieces.proofs.Regions.{order}
-use Rattle.alf_luma.specs.Filters.{FilterNumbers, tapPlace, Places}
+use Rattle.alf_lists.proofs.Regions.{order}
+use Rattle.alf_params.specs.Filters.{FilterNumbers}
+use Rattle.alf_luma.specs.Filters.{tapPlace, Places}
 
 -- coefficients and clips alike fit 16 bits
 pub numbers-small : {filters : List ℤ} → FilterNumbers filters → (k : ℕ) → natAbs (getD filters k (pos 0)) ≤ 4096

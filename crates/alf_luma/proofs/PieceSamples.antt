@@ -26,12 +26,12 @@ use Rattle.alf_spec.proofs.IsolatedRegions.Ratios.{whole}
 use Rattle.alf_spec.proofs.IsolatedRegions.TapPositions.{LumaOffsets, luma-offsets}
 use Rattle.alf_math.specs.Grids.{GridOf}
 use Rattle.alf_pieces.specs.declared.pieces.Piece.{Piece}
-use Rattle.alf_pieces.specs.Regions.{between, inRect}
+use Rattle.alf_lists.specs.Regions.{between, inRect}
 use Rattle.alf_pieces.specs.Pieces.{PieceOf, CtbOf}
 use Rattle.alf_pieces.specs.Copies.{extent, pitch, copyLength, copyAt}
 use Rattle.alf_pieces.proofs.PieceFacts.{Facts}
-use Rattle.alf_pieces.proofs.Painted.{paint-of, paint-in}
-use Rattle.alf_pieces.proofs.Regions.{in-rect, rect-facts}
+use Rattle.alf_lists.proofs.Painted.{paint-of, paint-in}
+use Rattle.alf_lists.proofs.Regions.{in-rect, rect-facts}
 use Rattle.alf_pieces.proofs.CtbPieces.{column-facts, row-facts}
 use Rattle.alf_pieces.proofs.CopyReads.{own-ctb}
 use Rattle.alf_pieces.proofs.CopySamples.{luma-in}
@@ -41,7 +41,7 @@ use Rattle.alf_classify.specs.Work.{rowWindow, copyClassAt}
 use Rattle.alf_classify.proofs.PieceClasses.{block-class}
 use Rattle.alf_taps.proofs.SpreadTaps.{taps-same}
 use Rattle.alf_luma.specs.Kernel.{current, plusSamples, minusSamples}
-use Rattle.alf_luma.specs.Filters.{LumaFilters}
+use Rattle.alf_params.specs.Filters.{LumaFilters}
 use Rattle.alf_luma.specs.Samples.{rowsAt, startsOf, pieceClass, MapOf, copySample, copySampleAt}
 use Rattle.alf_luma.proofs.SpreadFilters.{class-of-range, ownCoeff, ownClip}
 

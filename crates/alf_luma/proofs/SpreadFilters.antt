@@ -15,12 +15,13 @@ use Rattle.alf_spec.specs.Process.{classNumber}
 use Rattle.alf_spec.proofs.TapOrder.{each-below}
 use Rattle.alf_math.specs.Integers.{CoeffRange, ClipRange}
 use Rattle.alf_math.proofs.Gradients.{class-range}
-use Rattle.alf_pieces.specs.Regions.{inRect}
-use Rattle.alf_pieces.specs.Filled.{Filled}
-use Rattle.alf_pieces.proofs.Painted.{fill-in, fill-out}
-use Rattle.alf_pieces.proofs.Regions.{in-rect, rect-facts}
+use Rattle.alf_lists.specs.Regions.{inRect}
+use Rattle.alf_lists.specs.Filled.{Filled}
+use Rattle.alf_lists.proofs.Painted.{fill-in, fill-out}
+use Rattle.alf_lists.proofs.Regions.{in-rect, rect-facts}
 use Rattle.alf_taps.specs.Spread.{clipPlace, spreadCoeff, spreadClip, TapNumbers}
-use Rattle.alf_luma.specs.Filters.{FilterNumbers, tapPlace, Places, spreadFrom}
+use Rattle.alf_params.specs.Filters.{FilterNumbers}
+use Rattle.alf_luma.specs.Filters.{tapPlace, Places, spreadFrom}
 
 -- there are 25 classes and 4 transposes
 abbrev pub ClassRange : Class → Type 0

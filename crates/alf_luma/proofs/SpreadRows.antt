@@ -9,9 +9,9 @@ use lib.IntN.{ℤ}
 use Rattle.alf_spec.specs.declared.Picture.{Picture}
 use Rattle.alf_spec.specs.Arithmetic.{filtered}
 use Rattle.alf_pieces.specs.declared.pieces.Piece.{Piece}
-use Rattle.alf_pieces.specs.Regions.{between, inRect}
+use Rattle.alf_lists.specs.Regions.{between, inRect}
 use Rattle.alf_pieces.specs.Copies.{extent, pitch}
-use Rattle.alf_pieces.proofs.Regions.{run-facts, row-of, rect-facts}
+use Rattle.alf_lists.proofs.Regions.{run-facts, row-of, rect-facts}
 use Rattle.alf_taps.proofs.SpreadTaps.{taps-same}
 use Rattle.alf_luma.specs.Kernel.{current, plusSamples, minusSamples, filteredAt, rowFrom}
 use Rattle.alf_luma.specs.Samples.{rowsAt, startsOf, spreadSampleAt, pieceClass, copySample, copySampleAt}

@@ -1,4 +1,4 @@
--- A CTB's luma filters, and those of a row of blocks spread over its columns. Assumes nothing.
+-- The luma filters of a row of blocks, spread over its columns. Assumes nothing.
 use mathlib.Core.Path.{_≡_}
 use mathlib.Core.Bool.{cond}
 use mathlib.Core.List.{List}
@@ -10,19 +10,6 @@ use Rattle.alf_spec.specs.declared.Ctb.{Ctb}
 use Rattle.alf_spec.specs.Input.{Input}
 use Rattle.alf_spec.specs.Luma.{lumaF, lumaC, tapOrder}
 use Rattle.alf_math.specs.Integers.{CoeffRange, ClipRange}
-
--- ---- the filters of a CTB: 24 numbers for each of 25 classes, 12 coefficients and 12 clips
-
--- they are those of the CTB c
-pub record LumaFilters (i : Input) (c : Ctb) (filters : List ℤ) : Type 0 where
-  pub coefficients : (filter j : ℕ) → filter < 25 → j < 12 → getD filters (24 * filter + j) (pos 0) ≡ lumaF i c filter j
-  pub clips : (filter j : ℕ) → filter < 25 → j < 12 → getD filters (24 * filter + (12 + j)) (pos 0) ≡ lumaC i c filter j
-
--- they are in their ranges
-pub record FilterNumbers (filters : List ℤ) : Type 0 where
-  pub count : length filters ≡ 600
-  pub coefficients : (filter j : ℕ) → filter < 25 → j < 12 → CoeffRange (getD filters (24 * filter + j) (pos 0))
-  pub clips : (filter j : ℕ) → filter < 25 → j < 12 → ClipRange (getD filters (24 * filter + (12 + j)) (pos 0))
 
 -- ---- the tap order as a table: 24 places for each transpose
 

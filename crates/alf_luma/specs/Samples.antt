@@ -25,7 +25,8 @@ use Rattle.alf_classify.specs.Work.{rowWindow}
 use Rattle.alf_taps.specs.Spread.{TapNumbers}
 use Rattle.alf_luma.specs.declared.kernel.Starts.{Starts}
 use Rattle.alf_luma.specs.Kernel.{current, plusSamples, minusSamples, filteredAt}
-use Rattle.alf_luma.specs.Filters.{FilterNumbers, Places}
+use Rattle.alf_params.specs.Filters.{FilterNumbers}
+use Rattle.alf_luma.specs.Filters.{Places}
 
 -- Table 45 at row y
 abbrev pub rowsAt : ℕ → ℕ → ℕ → LumaRows

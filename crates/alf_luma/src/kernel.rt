@@ -5,7 +5,7 @@ ghost use Prim.Native.Nat.{_+_, _-_, _≤_, _<_};
 ghost use lib.ListN.{length};
 ghost use Rattle.alf_spec.specs.Lists.{painted};
 ghost use Rattle.alf_spec.specs.Arithmetic.{tapSum};
-ghost use Rattle.alf_pieces.specs.Regions.{between};
+ghost use Rattle.alf_lists.specs.Regions.{between};
 ghost use Rattle.alf_taps.specs.Spread.{spreadCoeff, spreadClip, TapNumbers};
 ghost use Rattle.alf_luma.specs.Kernel.{plusSamples, minusSamples, current, filteredAt, rowFrom, RowReads};
 use alf_math::rounding::filtered;

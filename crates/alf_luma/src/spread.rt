@@ -3,13 +3,14 @@ ghost use mathlib.Core.Path.{_≡_};
 ghost use Prim.Native.Nat.{ℕ, _+_, _*_, _/_, _%_, _≤_, _<_};
 ghost use lib.IntN.{pos, natAbs};
 ghost use lib.ListN.{length, getD};
-ghost use Rattle.alf_pieces.specs.Regions.{inRect};
-ghost use Rattle.alf_pieces.specs.Filled.{Filled};
+ghost use Rattle.alf_lists.specs.Regions.{inRect};
+ghost use Rattle.alf_lists.specs.Filled.{Filled};
 ghost use Rattle.alf_taps.specs.Spread.{clipPlace};
-ghost use Rattle.alf_luma.specs.Filters.{FilterNumbers, tapPlace, Places, numberFrom, classFrom, spreadFrom, ClassNumbers};
+ghost use Rattle.alf_params.specs.Filters.{FilterNumbers};
+ghost use Rattle.alf_luma.specs.Filters.{tapPlace, Places, numberFrom, classFrom, spreadFrom, ClassNumbers};
 use alf_math::tables::tap_order;
 use alf_taps::COLUMNS;
-use alf_taps::fill;
+use alf_lists::fill;
 
 // A filter's numbers, and how many places the tap order has for each transpose: 12 coefficients and 12 clips.
 const NUMBERS: usize = 24;

@@ -21,7 +21,7 @@ use Rattle.alf_spec.proofs.Tests.{both, implied, within-bounds, all-at, every-a
 use Rattle.alf_spec.proofs.Accepted.{passed, accepted, table-lengths}
 use Rattle.alf_math.specs.Integers.{CoeffRange, ClipRange}
 use Rattle.alf_params.specs.Tables.{BankNumbers, CtbTables, FixedTables}
-use Rattle.alf_pieces.proofs.Regions.{order}
+use Rattle.alf_lists.proofs.Regions.{order}
 use Rattle.alf_params.proofs.TableNumbers.{own-number, slice-number, own-tables}
 
 -- ---- numbers that pass the tests of 11

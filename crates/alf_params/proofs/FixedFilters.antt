@@ -7,11 +7,10 @@ use native.Mathlib.Omega.{arith}
 use borrow.Author.Tests.{lt-ltb, le-ltb}
 use lib.IntN.{ℤ, pos}
 use lib.ListN.{getD}
-use Rattle.alf_pieces.specs.Regions.{between}
-use Rattle.alf_pieces.specs.Filled.{Filled}
-use Rattle.alf_pieces.proofs.Painted.{fill-call}
-use Rattle.alf_pieces.proofs.Regions.{run-facts, run-join}
-use Rattle.alf_taps.specs.Spread.{same}
+use Rattle.alf_lists.specs.Regions.{between}
+use Rattle.alf_lists.specs.Filled.{Filled, same}
+use Rattle.alf_lists.proofs.Painted.{fill-call}
+use Rattle.alf_lists.proofs.Regions.{run-facts, run-join}
 use Rattle.alf_params.specs.Numbers.{copiedFrom, fixedNumber}
 use Rattle.alf_params.proofs.BankRanges.{place-in, piece-of}
 

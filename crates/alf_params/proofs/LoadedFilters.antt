@@ -14,12 +14,11 @@ use Rattle.alf_spec.specs.Parameters.{crossAps, crossIndex, crossCoeff, fixedCo
 use Rattle.alf_spec.specs.Luma.{lumaF, lumaC}
 use Rattle.alf_spec.proofs.Tests.{never}
 use Rattle.alf_math.specs.Integers.{CoeffRange, ClipRange}
-use Rattle.alf_pieces.specs.Regions.{between}
-use Rattle.alf_pieces.specs.Filled.{Filled}
-use Rattle.alf_pieces.proofs.Painted.{fill-in, fill-out}
-use Rattle.alf_pieces.proofs.Regions.{in-run, run-facts, order}
-use Rattle.alf_luma.specs.Filters.{LumaFilters, FilterNumbers}
-use Rattle.alf_chroma.specs.Pieces.{ChromaFilter}
+use Rattle.alf_lists.specs.Regions.{between}
+use Rattle.alf_lists.specs.Filled.{Filled}
+use Rattle.alf_lists.proofs.Painted.{fill-in, fill-out}
+use Rattle.alf_lists.proofs.Regions.{in-run, run-facts, order}
+use Rattle.alf_params.specs.Filters.{LumaFilters, FilterNumbers, ChromaFilter}
 use Rattle.alf_params.specs.Tables.{sliceNumber, ctbNumber, CtbTables, FixedTables, TablesOf, FixedOf}
 use Rattle.alf_params.specs.Numbers.{copiedFrom, fixedNumber}
 use Rattle.alf_params.proofs.TableNumbers.{own-number, slice-number, bank-number}

@@ -1,3 +1,4 @@
 -- What the contracts of this crate say beside the definitions of `alf_spec`.
+pub mod Filters
 pub mod Tables
 pub mod Numbers

@@ -7,16 +7,15 @@ ghost use Rattle.alf_spec.specs.declared.Ctb.{Ctb};
 ghost use Rattle.alf_spec.specs.Input.{Input};
 ghost use Rattle.alf_spec.specs.Parameters.{crossAps, crossIndex, crossCoeff};
 ghost use Rattle.alf_math.specs.Integers.{CoeffRange, ClipRange};
-ghost use Rattle.alf_pieces.specs.Regions.{between};
-ghost use Rattle.alf_pieces.specs.Filled.{Filled};
-ghost use Rattle.alf_luma.specs.Filters.{LumaFilters, FilterNumbers};
-ghost use Rattle.alf_chroma.specs.Pieces.{ChromaFilter};
+ghost use Rattle.alf_lists.specs.Regions.{between};
+ghost use Rattle.alf_lists.specs.Filled.{Filled};
+ghost use Rattle.alf_params.specs.Filters.{LumaFilters, FilterNumbers, ChromaFilter};
 ghost use Rattle.alf_params.specs.Tables.{ctbNumber, CtbTables, FixedTables, TablesOf, FixedOf};
 ghost use Rattle.alf_params.specs.Numbers.{copiedFrom, fixedNumber};
 use crate::entries::ctb_number;
 use crate::entries::slice_number;
 use alf_math::rounding::top_level;
-use alf_taps::fill;
+use alf_lists::fill;
 
 // An APS has 752 numbers: 600 for luma, then the chroma alternatives, and from 696 on the cross-component filters.
 const APS: usize = 752;

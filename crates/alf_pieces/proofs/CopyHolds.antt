@@ -14,7 +14,7 @@ use Rattle.alf_spec.specs.Boundary.{columnDisabled, rowDisabled}
 use Rattle.alf_spec.specs.Padding.{read}
 use Rattle.alf_spec.proofs.IsolatedRegions.Ratios.{Ratio}
 use Rattle.alf_pieces.specs.declared.pieces.Piece.{Piece}
-use Rattle.alf_pieces.specs.Regions.{between}
+use Rattle.alf_lists.specs.Regions.{between}
 use Rattle.alf_pieces.specs.Pieces.{PieceOf, CtbOf}
 use Rattle.alf_pieces.specs.Copies.{pitch, copyLength, copied, copyAt}
 use Rattle.alf_pieces.proofs.PieceFacts.{InPiece}

@@ -10,11 +10,11 @@ use Rattle.alf_spec.specs.declared.Sides.{Sides}
 use Rattle.alf_spec.specs.Lists.{painted}
 use Rattle.alf_spec.proofs.Tests.{cond-either}
 use Rattle.alf_pieces.specs.declared.pieces.Piece.{Piece}
-use Rattle.alf_pieces.specs.Regions.{between}
+use Rattle.alf_lists.specs.Regions.{between}
 use Rattle.alf_pieces.specs.Pieces.{PieceIn}
 use Rattle.alf_pieces.specs.Copies.{held, extent, pitch, copyRow, rowLowest, rowLimit, copyColumn, copied, copyAt, runAt, rowAt}
-use Rattle.alf_pieces.proofs.Painted.{Paint, paint-is, paint-of, paint-call, paint-same}
-use Rattle.alf_pieces.proofs.Regions.{run-facts, run-join, row-of}
+use Rattle.alf_lists.proofs.Painted.{Paint, paint-is, paint-of, paint-call, paint-same}
+use Rattle.alf_lists.proofs.Regions.{run-facts, run-join, row-of}
 
 -- ---- one sample
 

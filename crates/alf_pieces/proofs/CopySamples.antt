@@ -12,10 +12,10 @@ use Rattle.alf_spec.proofs.Planes.{place-below, place-column, place-row}
 use Rattle.alf_spec.proofs.IsolatedRegions.Ratios.{Ratio}
 use Rattle.alf_spec.proofs.IsolatedRegions.Reach.{reach-luma, reach-window, reach-chroma}
 use Rattle.alf_pieces.specs.declared.pieces.Piece.{Piece}
-use Rattle.alf_pieces.specs.Regions.{between}
+use Rattle.alf_lists.specs.Regions.{between}
 use Rattle.alf_pieces.specs.Copies.{pitch, copyLength, copied, copyAt}
-use Rattle.alf_pieces.proofs.Painted.{paint-of, paint-in}
-use Rattle.alf_pieces.proofs.Regions.{in-run}
+use Rattle.alf_lists.proofs.Painted.{paint-of, paint-in}
+use Rattle.alf_lists.proofs.Regions.{in-run}
 use Rattle.alf_pieces.proofs.PieceFacts.{InPiece}
 
 -- a copy as `copy_piece` leaves it

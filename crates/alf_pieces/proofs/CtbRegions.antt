@@ -23,11 +23,11 @@ use Rattle.alf_spec.proofs.IsolatedRegions.Ratios.{own-le, lt-own}
 use Rattle.alf_spec.proofs.IsolatedRegions.Steps.{ctb-below}
 use Rattle.alf_math.specs.Grids.{GridOf}
 use Rattle.alf_math.proofs.Grids.{grid-columns, grid-total}
-use Rattle.alf_pieces.specs.Regions.{inRect}
+use Rattle.alf_lists.specs.Regions.{inRect}
 use Rattle.alf_pieces.specs.Pieces.{ctbLimit}
 use Rattle.alf_pieces.specs.CtbRegions.{addressAt, ofCtb, beforeCtb}
-use Rattle.alf_pieces.proofs.Painted.{Paint, paint-is, paint-of, paint-same, paint-all}
-use Rattle.alf_pieces.proofs.Regions.{order, in-rect, rect-facts}
+use Rattle.alf_lists.proofs.Painted.{Paint, paint-is, paint-of, paint-same, paint-all}
+use Rattle.alf_lists.proofs.Regions.{order, in-rect, rect-facts}
 
 -- a multiple of 8 is a whole number of the plane's own samples: ratios of 1, 2, 4 and 8
 abbrev Whole : ℕ → Type 0

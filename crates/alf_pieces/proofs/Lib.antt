@@ -1,6 +1,4 @@
 -- Laws that the proofs of this crate, and of those above it, cite.
-pub mod Painted
-pub mod Regions
 pub mod NextBoundary
 pub mod BoundaryScan
 pub mod PieceEnds
@@ -11,7 +9,6 @@ pub mod CopyReads
 pub mod CopyRows
 pub mod CopySamples
 pub mod CopyRooms
-pub mod PaintedRects
 pub mod PieceWalk
 pub mod CtbPieces
 pub mod CopyHolds

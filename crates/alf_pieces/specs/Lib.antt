@@ -1,6 +1,4 @@
 -- What the contracts of this crate, and of the kernels above it, say beside the definitions of `alf_spec`.
-pub mod Filled
-pub mod Regions
 pub mod Pieces
 pub mod Copies
 pub mod CtbRegions

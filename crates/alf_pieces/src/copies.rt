@@ -3,7 +3,7 @@ ghost use mathlib.Core.Path.{_≡_};
 ghost use Prim.Native.Nat.{_+_, _-_, _*_, _^_, _≤_, _<_};
 ghost use lib.ListN.{length};
 ghost use Rattle.alf_spec.specs.Lists.{painted};
-ghost use Rattle.alf_pieces.specs.Regions.{between};
+ghost use Rattle.alf_lists.specs.Regions.{between};
 ghost use Rattle.alf_pieces.specs.Pieces.{PieceIn};
 ghost use Rattle.alf_pieces.specs.Copies.{held as heldIn, extent as extentOf, pitch, copyLength, rowLowest, rowLimit, copyAt, runAt, rowAt};
 use crate::pieces::Piece;
@@ -117,6 +117,18 @@ fn copy_row(
     copy_side(plane, row, lowest, limit, start, copy, at, n + 3);
 }
 
+// The plane's row that stands in row j of the copy. A corner moves columns alone: the row past it stays.
+fn row_of(rows: Piece, j: usize) -> usize
+    requires { ⌜ (rows .lowest ≤ rows .start) × (rows .start < rows .limit) × (rows .start + j < 2 ^ 63) ⌝ }
+    ensures { λ r. ⌜ r ≡ heldIn (rows .lowest) (rows .limit) (rows .start + j - 3) ⌝ }
+{
+    held(
+        rows.lowest as usize,
+        rows.limit as usize,
+        position(rows.start as usize, j),
+    )
+}
+
 // Row j of the copy of a piece. Past a corner it has its own range of columns.
 fn copy_row_of(
     plane: &[u16],
@@ -132,11 +144,7 @@ fn copy_row_of(
     ensures { λ _. ⌜ now (copy .exit) ≡ painted (now (copy .entry)) (between (j * pitch columns) (pitch columns))
         (copyAt columns rows sides (now (plane .entry)) width) ⌝ }
 {
-    let v = held(
-        rows.lowest as usize,
-        rows.limit as usize,
-        position(rows.start as usize, j),
-    );
+    let v = row_of(rows, j);
     let lowest = row_lowest(columns, rows, sides, v);
     let limit = row_limit(columns, rows, sides, v);
     let n = extent(columns);

@@ -23,7 +23,3 @@ pub record TapNumbers (taps : List ℤ) : Type 0 where
   pub room : 2 * clipPlace ≤ length taps
   pub coefficients : (k : ℕ) → k < clipPlace → CoeffRange (getD taps k (pos 0))
   pub clips : (k : ℕ) → k < clipPlace → ClipRange (getD taps (clipPlace + k) (pos 0))
-
--- one number at each place
-abbrev pub same : ℤ → ℕ → ℤ
-same v k = v

@@ -5,9 +5,7 @@ ghost use Prim.Native.Nat.{_+_, _*_, _^_, _≤_, _<_};
 ghost use lib.ListN.{length, getD};
 ghost use lib.IntN.{pos, natAbs, _+ℤ_};
 ghost use Rattle.alf_spec.specs.Arithmetic.{tap as tapOf};
-ghost use Rattle.alf_pieces.specs.Regions.{between};
-ghost use Rattle.alf_pieces.specs.Filled.{Filled};
-ghost use Rattle.alf_taps.specs.Spread.{clipPlace, TapNumbers, same};
+ghost use Rattle.alf_taps.specs.Spread.{clipPlace, TapNumbers};
 use alf_math::taps::tap;
 
 // Of a filter's spread numbers, how many a row has, how many come before the clips, and how many there are.
@@ -44,16 +42,4 @@ pub fn add_tap(
             copy[plus + x + i],
             copy[minus + x + j],
         )
-}
-
-// One number in n columns.
-pub fn fill(taps: &mut [i16], at: usize, n: usize, v: i16)
-    requires { ⌜ at + n ≤ length (now taps) ⌝ }
-    ensures { λ _. ⌜ Filled (pos 0) (now (taps .entry)) (between at n) (same v) (now (taps .exit)) ⌝ }
-{
-    let mut x: usize = 0;
-    while x < n {
-        taps[at + x] = v;
-        x += 1;
-    }
 }

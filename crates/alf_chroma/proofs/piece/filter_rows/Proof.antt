@@ -5,9 +5,9 @@ use native.Mathlib.Nat.{le-antisymm}
 use native.Mathlib.Omega.{arith}
 use borrow.Author.Needs.{needs}
 use lib.ListN.{length}
-use Rattle.alf_pieces.specs.Regions.{inRect}
-use Rattle.alf_pieces.proofs.Painted.{Paint, paint-is, paint-none, paint-call}
-use Rattle.alf_pieces.proofs.Regions.{rect-none, rect-more}
+use Rattle.alf_lists.specs.Regions.{inRect}
+use Rattle.alf_lists.proofs.Painted.{Paint, paint-is, paint-none, paint-call}
+use Rattle.alf_lists.proofs.Regions.{rect-none, rect-more}
 use Rattle.alf_chroma.specs.Pieces.{copyChromaAt}
 use Rattle.alf_chroma.proofs.PieceRows.{Begun, row-ratio, narrow, last-column, in-plane, row-small, row-ready, row-sample}
 use Rattle.alf_chroma.proofs.piece.filter_rows.Statement.{statement}

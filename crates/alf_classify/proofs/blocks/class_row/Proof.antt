@@ -7,8 +7,8 @@ use borrow.Author.Needs.{needs}
 use Rattle.alf_spec.specs.declared.Sums.{Sums}
 use Rattle.alf_spec.specs.Classes.{classOfSums}
 use Rattle.alf_spec.specs.Process.{classNumber}
-use Rattle.alf_pieces.proofs.Painted.{paint-of, paint-is, paint-same}
-use Rattle.alf_pieces.proofs.Regions.{run-facts}
+use Rattle.alf_lists.proofs.Painted.{paint-of, paint-is, paint-same}
+use Rattle.alf_lists.proofs.Regions.{run-facts}
 use Rattle.alf_classify.proofs.ColumnSums.{sums-of-block}
 use Rattle.alf_classify.proofs.blocks.class_row.Statement.{statement}
 use Rattle.alf_classify.proofs.blocks.class_row.Tie as tie

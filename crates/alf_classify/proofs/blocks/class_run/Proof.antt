@@ -6,9 +6,9 @@ use native.Mathlib.Omega.{arith}
 use borrow.Author.Needs.{needs}
 use Rattle.alf_spec.specs.Classes.{classOfSums}
 use Rattle.alf_spec.specs.Process.{classNumber}
-use Rattle.alf_pieces.specs.Regions.{between}
-use Rattle.alf_pieces.proofs.Painted.{Paint, paint-is, paint-none, paint-set}
-use Rattle.alf_pieces.proofs.Regions.{run-none, run-more}
+use Rattle.alf_lists.specs.Regions.{between}
+use Rattle.alf_lists.proofs.Painted.{Paint, paint-is, paint-none, paint-set}
+use Rattle.alf_lists.proofs.Regions.{run-none, run-more}
 use Rattle.alf_classify.specs.Windows.{columnSums, columnClass}
 use Rattle.alf_classify.proofs.blocks.class_run.Statement.{statement}
 use Rattle.alf_classify.proofs.blocks.class_run.Tie as tie

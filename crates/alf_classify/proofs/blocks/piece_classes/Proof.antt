@@ -8,10 +8,10 @@ use borrow.Author.Needs.{needs}
 use lib.ListN.{length}
 use Rattle.alf_math.proofs.Grids.{height-bounds, depth-bounds}
 use Rattle.alf_pieces.specs.declared.pieces.Piece.{Piece}
-use Rattle.alf_pieces.specs.Regions.{inRect}
+use Rattle.alf_lists.specs.Regions.{inRect}
 use Rattle.alf_pieces.specs.Copies.{extent, pitch as pitchOf, area}
-use Rattle.alf_pieces.proofs.Painted.{Paint, paint-of, paint-is, paint-none, paint-call}
-use Rattle.alf_pieces.proofs.Regions.{rect-none, rect-more}
+use Rattle.alf_lists.proofs.Painted.{Paint, paint-of, paint-is, paint-none, paint-call}
+use Rattle.alf_lists.proofs.Regions.{rect-none, rect-more}
 use Rattle.alf_classify.specs.Work.{copyClassAt}
 use Rattle.alf_classify.proofs.PieceRows.{Prepared, blocks, copy-bounds, row-ready, row-number}
 use Rattle.alf_classify.proofs.WindowSums.{RowBounds, row-bounds}

@@ -1,6 +1,6 @@
 -- `alf_classify::differences::all_differences` meets its contract: a run leaves what the runs before it have written. Assumes nothing.
 use borrow.Author.Needs.{needs}
-use Rattle.alf_pieces.proofs.Painted.{paint-of}
+use Rattle.alf_lists.proofs.Painted.{paint-of}
 use Rattle.alf_classify.proofs.DifferenceLists.{all-length, all-written}
 use Rattle.alf_classify.proofs.differences.all_differences.Statement.{statement}
 use Rattle.alf_classify.proofs.differences.all_differences.Tie as tie

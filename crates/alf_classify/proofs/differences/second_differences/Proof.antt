@@ -4,9 +4,9 @@ use Prim.Native.Nat.{ℕ, _+_, _-_, _≤_}
 use native.Mathlib.Nat.{le-antisymm}
 use native.Mathlib.Omega.{arith}
 use borrow.Author.Needs.{needs}
-use Rattle.alf_pieces.specs.Regions.{between}
-use Rattle.alf_pieces.proofs.Painted.{Paint, paint-is, paint-none, paint-set}
-use Rattle.alf_pieces.proofs.Regions.{run-none, run-more}
+use Rattle.alf_lists.specs.Regions.{between}
+use Rattle.alf_lists.proofs.Painted.{Paint, paint-is, paint-none, paint-set}
+use Rattle.alf_lists.proofs.Regions.{run-none, run-more}
 use Rattle.alf_classify.specs.Windows.{differenceAt, differenceFrom}
 use Rattle.alf_classify.proofs.differences.second_differences.Statement.{statement}
 use Rattle.alf_classify.proofs.differences.second_differences.Tie as tie

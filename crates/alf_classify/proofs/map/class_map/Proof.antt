@@ -12,7 +12,7 @@ use Rattle.alf_spec.proofs.Accepted.{Accepted}
 use Rattle.alf_math.proofs.Grids.{few-ctbs}
 use Rattle.alf_pieces.specs.Copies.{area}
 use Rattle.alf_pieces.specs.CtbRegions.{ofCtb, beforeCtb}
-use Rattle.alf_pieces.proofs.Painted.{Paint, paint-none, paint-call}
+use Rattle.alf_lists.proofs.Painted.{Paint, paint-none, paint-call}
 use Rattle.alf_pieces.proofs.CtbRegions.{no-ctb, next-ctb, all-painted}
 use Rattle.alf_classify.proofs.ClassWorks.{whole-blocks, accepted-classes, map-length}
 use Rattle.alf_classify.proofs.map.class_map.Statement.{statement}

@@ -14,12 +14,12 @@ use Rattle.alf_spec.specs.Process.{classAt}
 use Rattle.alf_spec.proofs.IsolatedRegions.Ratios.{whole}
 use Rattle.alf_math.proofs.Grids.{place-bound, width-bounds}
 use Rattle.alf_boundary.specs.Clips.{axisOf}
-use Rattle.alf_pieces.specs.Regions.{inRect}
+use Rattle.alf_lists.specs.Regions.{inRect}
 use Rattle.alf_pieces.specs.Pieces.{either, PieceOf, CtbOf}
-use Rattle.alf_pieces.proofs.Painted.{Paint, paint-is, paint-none}
-use Rattle.alf_pieces.proofs.Regions.{rect-none}
+use Rattle.alf_lists.proofs.Painted.{Paint, paint-is, paint-none}
+use Rattle.alf_lists.proofs.Regions.{rect-none}
 use Rattle.alf_pieces.proofs.CtbPieces.{column-piece}
-use Rattle.alf_pieces.proofs.PaintedRects.{paint-beside}
+use Rattle.alf_lists.proofs.PaintedRects.{paint-beside}
 use Rattle.alf_pieces.proofs.PieceWalk.{Walk, walk-start, walk-next, walk-done, Turn, turn, turn-less, block-piece, columns-regular}
 use Rattle.alf_classify.proofs.ClassWorks.{work-same}
 use Rattle.alf_classify.proofs.map.class_strip.Statement.{statement}

@@ -6,9 +6,9 @@ use native.Mathlib.Omega.{arith}
 use borrow.Author.Needs.{needs}
 use lib.ListN.{getD}
 use Rattle.alf_spec.proofs.Tests.{never}
-use Rattle.alf_pieces.specs.Regions.{between}
-use Rattle.alf_pieces.proofs.Painted.{Paint, paint-is, paint-none, paint-set, paint-out}
-use Rattle.alf_pieces.proofs.Regions.{run-none, run-next, run-facts}
+use Rattle.alf_lists.specs.Regions.{between}
+use Rattle.alf_lists.proofs.Painted.{Paint, paint-is, paint-none, paint-set, paint-out}
+use Rattle.alf_lists.proofs.Regions.{run-none, run-next, run-facts}
 use Rattle.alf_classify.specs.Windows.{pairAdded}
 use Rattle.alf_classify.proofs.sums.add_pair.Statement.{statement}
 use Rattle.alf_classify.proofs.sums.add_pair.Tie as tie

@@ -4,8 +4,8 @@ use Prim.Native.Nat.{_+_, _-_, _*_, _≤_}
 use native.Mathlib.Nat.{mul-le-mul-right}
 use native.Mathlib.Omega.{arith}
 use borrow.Author.Needs.{needs}
-use Rattle.alf_pieces.proofs.Painted.{paint-of, paint-in, paint-is}
-use Rattle.alf_pieces.proofs.Regions.{in-run}
+use Rattle.alf_lists.proofs.Painted.{paint-of, paint-in, paint-is}
+use Rattle.alf_lists.proofs.Regions.{in-run}
 use Rattle.alf_classify.proofs.ColumnSums.{three-small, four-pairs}
 use Rattle.alf_classify.proofs.sums.column_sums.Statement.{statement}
 use Rattle.alf_classify.proofs.sums.column_sums.Tie as tie

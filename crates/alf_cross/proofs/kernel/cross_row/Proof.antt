@@ -8,9 +8,9 @@ use lib.IntN.{ℤ}
 use mir.Syntax.{w16}
 use mir.Val.{toZ}
 use borrow.Author.Needs.{needs}
-use Rattle.alf_pieces.specs.Regions.{between}
-use Rattle.alf_pieces.proofs.Painted.{Paint, paint-is, paint-none, paint-set}
-use Rattle.alf_pieces.proofs.Regions.{run-none, run-more}
+use Rattle.alf_lists.specs.Regions.{between}
+use Rattle.alf_lists.proofs.Painted.{Paint, paint-is, paint-none, paint-set}
+use Rattle.alf_lists.proofs.Regions.{run-none, run-more}
 use Rattle.alf_cross.specs.Taps.{rowSample}
 use Rattle.alf_cross.proofs.TapSums.{taps-back, reads-less}
 use Rattle.alf_cross.proofs.kernel.cross_row.Statement.{statement}

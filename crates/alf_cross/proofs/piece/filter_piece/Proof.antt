@@ -6,7 +6,7 @@ use borrow.Author.Needs.{needs}
 use lib.ListN.{length}
 use Rattle.alf_spec.proofs.IsolatedRegions.Ratios.{chroma-ratios}
 use Rattle.alf_pieces.specs.Copies.{pitch, copyLength}
-use Rattle.alf_pieces.proofs.Painted.{paint-is, paint-of, paint-same}
+use Rattle.alf_lists.proofs.Painted.{paint-is, paint-of, paint-same}
 use Rattle.alf_pieces.proofs.CopySamples.{copy-small}
 use Rattle.alf_pieces.proofs.CopyRooms.{copy-fits, rows-fit}
 use Rattle.alf_cross.proofs.SplitColumns.{split-small}

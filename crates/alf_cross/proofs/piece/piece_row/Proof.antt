@@ -8,7 +8,7 @@ use Rattle.alf_spec.specs.Geometry.{subWidth, subHeight}
 use Rattle.alf_spec.proofs.IsolatedRegions.Ratios.{chroma-ratios}
 use Rattle.alf_math.proofs.Grids.{width-bounds, height-bounds, depth-bounds}
 use Rattle.alf_pieces.specs.Copies.{extent, pitch}
-use Rattle.alf_pieces.proofs.Painted.{paint-is, paint-of, paint-same}
+use Rattle.alf_lists.proofs.Painted.{paint-is, paint-of, paint-same}
 use Rattle.alf_cross.proofs.PieceRows.{Near, near, row-reads, columns-fit, luma-row, row-fits, row-value}
 use Rattle.alf_cross.proofs.piece.piece_row.Statement.{statement}
 use Rattle.alf_cross.proofs.piece.piece_row.Tie as tie

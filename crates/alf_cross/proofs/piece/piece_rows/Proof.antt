@@ -8,10 +8,10 @@ use borrow.Author.Needs.{needs}
 use Rattle.alf_spec.specs.Geometry.{subWidth, subHeight}
 use Rattle.alf_spec.proofs.IsolatedRegions.Ratios.{chroma-ratios}
 use Rattle.alf_math.proofs.Grids.{height-bounds}
-use Rattle.alf_pieces.specs.Regions.{inRect}
+use Rattle.alf_lists.specs.Regions.{inRect}
 use Rattle.alf_pieces.specs.Copies.{extent}
-use Rattle.alf_pieces.proofs.Painted.{Paint, paint-is, paint-none, paint-call}
-use Rattle.alf_pieces.proofs.Regions.{rect-none, rect-more}
+use Rattle.alf_lists.proofs.Painted.{Paint, paint-is, paint-none, paint-call}
+use Rattle.alf_lists.proofs.Regions.{rect-none, rect-more}
 use Rattle.alf_cross.specs.Work.{splitCrossAt}
 use Rattle.alf_cross.proofs.PieceRows.{Own, own}
 use Rattle.alf_cross.proofs.piece.piece_rows.Statement.{statement}

@@ -2,7 +2,7 @@
 use mathlib.Core.Path.{_∙_}
 use borrow.Author.Needs.{needs}
 use Rattle.alf_spec.specs.Lists.{painted}
-use Rattle.alf_pieces.specs.Regions.{between}
+use Rattle.alf_lists.specs.Regions.{between}
 use Rattle.alf_cross.specs.Taps.{SmallTaps, rowSample, seven}
 use Rattle.alf_cross.proofs.TapSums.{taps-back, seven-small}
 use Rattle.alf_cross.proofs.rows.offset_row.Statement.{statement}

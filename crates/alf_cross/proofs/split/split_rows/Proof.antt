@@ -5,7 +5,7 @@ use native.Mathlib.Nat.{le-antisymm}
 use native.Mathlib.Omega.{arith}
 use borrow.Author.Needs.{needs}
 use lib.ListN.{length}
-use Rattle.alf_pieces.proofs.Regions.{row-room}
+use Rattle.alf_lists.proofs.Regions.{row-room}
 use Rattle.alf_cross.specs.Taps.{Split}
 use Rattle.alf_cross.proofs.SplitColumns.{rows-more}
 use Rattle.alf_cross.proofs.split.split_rows.Statement.{statement}

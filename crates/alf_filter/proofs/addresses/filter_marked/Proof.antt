@@ -16,7 +16,7 @@ use Rattle.alf_spec.specs.Process.{isFiltered, atIndex, outputPlane}
 use Rattle.alf_spec.proofs.Accepted.{Accepted, output-length}
 use Rattle.alf_math.proofs.Grids.{few-ctbs, grid-total}
 use Rattle.alf_pieces.specs.Copies.{area}
-use Rattle.alf_pieces.proofs.Painted.{Paint, paint-is, paint-none, paint-call, paint-same}
+use Rattle.alf_lists.proofs.Painted.{Paint, paint-is, paint-none, paint-call, paint-same}
 use Rattle.alf_taps.specs.Spread.{TapNumbers}
 use Rattle.alf_filter.specs.declared.Filter.{Filter}
 use Rattle.alf_filter.specs.Filters.{operationOf, isOn, sampleOf}

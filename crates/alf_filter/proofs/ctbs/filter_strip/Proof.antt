@@ -11,10 +11,10 @@ use Rattle.alf_spec.proofs.IsolatedRegions.Ratios.{whole}
 use Rattle.alf_math.proofs.Grids.{place-bound, width-bounds}
 use Rattle.alf_boundary.specs.Clips.{axisOf}
 use Rattle.alf_pieces.specs.Pieces.{either}
-use Rattle.alf_pieces.proofs.Painted.{paint-is, paint-of, paint-none}
-use Rattle.alf_pieces.proofs.Regions.{rect-none}
+use Rattle.alf_lists.proofs.Painted.{paint-is, paint-of, paint-none}
+use Rattle.alf_lists.proofs.Regions.{rect-none}
 use Rattle.alf_pieces.proofs.CtbPieces.{column-piece}
-use Rattle.alf_pieces.proofs.PaintedRects.{paint-beside}
+use Rattle.alf_lists.proofs.PaintedRects.{paint-beside}
 use Rattle.alf_pieces.proofs.PieceWalk.{Walk, walk-start, walk-next, walk-done, Turn, turn, turn-less, block-piece, columns-regular}
 use Rattle.alf_taps.specs.Spread.{TapNumbers}
 use Rattle.alf_filter.specs.Filters.{columnRatio}

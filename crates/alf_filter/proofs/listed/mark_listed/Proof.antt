@@ -6,7 +6,7 @@ use native.Mathlib.Omega.{arith}
 use borrow.Author.Needs.{needs}
 use lib.ListN.{length, take}
 use lib.Seq.{take-length}
-use Rattle.alf_pieces.proofs.Painted.{Paint, paint-is, paint-none, paint-set}
+use Rattle.alf_lists.proofs.Painted.{Paint, paint-is, paint-none, paint-set}
 use Rattle.alf_filter.specs.Regions.{isListed, marked}
 use Rattle.alf_filter.proofs.Listing.{none-listed, one-listed}
 use Rattle.alf_filter.proofs.listed.mark_listed.Statement.{statement}

@@ -9,10 +9,10 @@ use lib.IntN.{ℤ, pos}
 use lib.ListN.{getD}
 use Rattle.alf_spec.specs.declared.Class.{Class}
 use Rattle.alf_spec.specs.Process.{classNumber}
-use Rattle.alf_pieces.specs.Regions.{inRect}
-use Rattle.alf_pieces.specs.Filled.{Filled}
+use Rattle.alf_lists.specs.Regions.{inRect}
+use Rattle.alf_lists.specs.Filled.{Filled}
 use Rattle.alf_pieces.specs.Copies.{extent, pitch, copyLength}
-use Rattle.alf_pieces.proofs.Painted.{paint-is, paint-of, paint-same}
+use Rattle.alf_lists.proofs.Painted.{paint-is, paint-of, paint-same}
 use Rattle.alf_classify.proofs.PieceRows.{Blocks, blocks}
 use Rattle.alf_taps.specs.Spread.{TapNumbers}
 use Rattle.alf_luma.specs.Filters.{spreadFrom}

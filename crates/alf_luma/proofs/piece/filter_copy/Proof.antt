@@ -5,11 +5,11 @@ use Prim.Native.Nat.{_+_, _*_, _-_, _/_, _≤_}
 use native.Mathlib.Omega.{arith}
 use borrow.Author.Needs.{needs}
 use lib.ListN.{length}
-use Rattle.alf_pieces.specs.Regions.{inRect}
+use Rattle.alf_lists.specs.Regions.{inRect}
 use Rattle.alf_pieces.specs.Copies.{extent}
-use Rattle.alf_pieces.proofs.Painted.{Paint, paint-is, paint-none}
-use Rattle.alf_pieces.proofs.PaintedRects.{paint-stacked}
-use Rattle.alf_pieces.proofs.Regions.{rect-none}
+use Rattle.alf_lists.proofs.Painted.{Paint, paint-is, paint-none}
+use Rattle.alf_lists.proofs.PaintedRects.{paint-stacked}
+use Rattle.alf_lists.proofs.Regions.{rect-none}
 use Rattle.alf_classify.proofs.PieceRows.{blocks}
 use Rattle.alf_taps.specs.Spread.{TapNumbers}
 use Rattle.alf_luma.specs.Samples.{copySampleAt}

@@ -7,9 +7,9 @@ use native.Mathlib.Omega.{arith}
 use borrow.Author.Needs.{needs}
 use lib.ListN.{length}
 use Rattle.alf_math.proofs.Grids.{width-bounds, height-bounds}
-use Rattle.alf_pieces.specs.Regions.{inRect}
-use Rattle.alf_pieces.proofs.Painted.{Paint, paint-is, paint-none, paint-call}
-use Rattle.alf_pieces.proofs.Regions.{rect-none, rect-more, row-room}
+use Rattle.alf_lists.specs.Regions.{inRect}
+use Rattle.alf_lists.proofs.Painted.{Paint, paint-is, paint-none, paint-call}
+use Rattle.alf_lists.proofs.Regions.{rect-none, rect-more, row-room}
 use Rattle.alf_luma.specs.Samples.{spreadSampleAt}
 use Rattle.alf_luma.proofs.SpreadRows.{row-value}
 use Rattle.alf_luma.proofs.piece.filter_four.Statement.{statement}

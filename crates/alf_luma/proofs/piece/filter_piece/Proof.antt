@@ -5,7 +5,7 @@ use native.Mathlib.Omega.{arith}
 use borrow.Author.Needs.{needs}
 use lib.ListN.{length}
 use Rattle.alf_pieces.specs.Copies.{copyLength}
-use Rattle.alf_pieces.proofs.Painted.{paint-is, paint-of, paint-same}
+use Rattle.alf_lists.proofs.Painted.{paint-is, paint-of, paint-same}
 use Rattle.alf_pieces.proofs.CopySamples.{copy-small}
 use Rattle.alf_pieces.proofs.CopyRooms.{copy-fits, rows-fit}
 use Rattle.alf_classify.proofs.PieceRows.{blocks}

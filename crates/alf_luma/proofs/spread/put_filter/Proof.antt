@@ -12,10 +12,10 @@ use mir.Facts.{toZ-ofZ}
 use mir.Syntax.{w16}
 use mir.Val.{SFits}
 use Rattle.alf_math.proofs.Magnitude.{fits-abs}
-use Rattle.alf_pieces.specs.Regions.{between, inRect}
-use Rattle.alf_pieces.specs.Filled.{Filled}
-use Rattle.alf_pieces.proofs.Painted.{fill-none, fill-call}
-use Rattle.alf_pieces.proofs.Regions.{rect-none, rect-more, run-facts, row-of}
+use Rattle.alf_lists.specs.Regions.{between, inRect}
+use Rattle.alf_lists.specs.Filled.{Filled}
+use Rattle.alf_lists.proofs.Painted.{fill-none, fill-call}
+use Rattle.alf_lists.proofs.Regions.{rect-none, rect-more, run-facts, row-of}
 use Rattle.alf_luma.specs.Filters.{numberFrom}
 use Rattle.alf_luma.proofs.spread.put_filter.Statement.{statement}
 use Rattle.alf_luma.proofs.spread.put_filter.Tie as tie

@@ -8,10 +8,10 @@ use native.Mathlib.Omega.{arith}
 use borrow.Author.Needs.{needs}
 use lib.IntN.{pos}
 use lib.ListN.{getD}
-use Rattle.alf_pieces.specs.Regions.{inRect}
-use Rattle.alf_pieces.specs.Filled.{Filled}
-use Rattle.alf_pieces.proofs.Painted.{fill-none, fill-call}
-use Rattle.alf_pieces.proofs.Regions.{rect-none, rect-beside, rect-facts}
+use Rattle.alf_lists.specs.Regions.{inRect}
+use Rattle.alf_lists.specs.Filled.{Filled}
+use Rattle.alf_lists.proofs.Painted.{fill-none, fill-call}
+use Rattle.alf_lists.proofs.Regions.{rect-none, rect-beside, rect-facts}
 use Rattle.alf_luma.specs.Filters.{classFrom, spreadFrom}
 use Rattle.alf_luma.proofs.spread.spread.Statement.{statement}
 use Rattle.alf_luma.proofs.spread.spread.Tie as tie

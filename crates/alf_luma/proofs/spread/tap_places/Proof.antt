@@ -5,9 +5,9 @@ use native.Mathlib.Nat.{le-antisymm}
 use native.Mathlib.Omega.{arith}
 use borrow.Author.Needs.{needs}
 use lib.ListN.{length}
-use Rattle.alf_pieces.specs.Regions.{between}
-use Rattle.alf_pieces.proofs.Painted.{Paint, paint-none, paint-set, paint-in}
-use Rattle.alf_pieces.proofs.Regions.{run-none, run-next, in-run}
+use Rattle.alf_lists.specs.Regions.{between}
+use Rattle.alf_lists.proofs.Painted.{Paint, paint-none, paint-set, paint-in}
+use Rattle.alf_lists.proofs.Regions.{run-none, run-next, in-run}
 use Rattle.alf_luma.specs.Filters.{tapPlace, placeAt}
 use Rattle.alf_luma.proofs.spread.tap_places.Statement.{statement}
 use Rattle.alf_luma.proofs.spread.tap_places.Tie as tie

@@ -10,10 +10,10 @@ use mir.Facts.{toZ-ofZ}
 use mir.Syntax.{w16}
 use mir.Val.{SFits}
 use Rattle.alf_math.proofs.Magnitude.{fits-abs}
-use Rattle.alf_pieces.specs.Regions.{between}
-use Rattle.alf_pieces.specs.Filled.{Filled}
-use Rattle.alf_pieces.proofs.Painted.{fill-none, fill-set}
-use Rattle.alf_pieces.proofs.Regions.{run-none, run-more}
+use Rattle.alf_lists.specs.Regions.{between}
+use Rattle.alf_lists.specs.Filled.{Filled}
+use Rattle.alf_lists.proofs.Painted.{fill-none, fill-set}
+use Rattle.alf_lists.proofs.Regions.{run-none, run-more}
 use Rattle.alf_params.specs.Numbers.{copiedFrom}
 use Rattle.alf_params.proofs.filters.copy_numbers.Statement.{statement}
 use Rattle.alf_params.proofs.filters.copy_numbers.Tie as tie

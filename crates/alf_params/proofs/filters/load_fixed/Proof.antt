@@ -7,10 +7,10 @@ use lib.IntN.{pos}
 use lib.ListN.{getD}
 use mir.Syntax.{w16}
 use Rattle.alf_math.proofs.Magnitude.{returned}
-use Rattle.alf_pieces.specs.Regions.{between}
-use Rattle.alf_pieces.specs.Filled.{Filled}
-use Rattle.alf_pieces.proofs.Painted.{fill-none}
-use Rattle.alf_pieces.proofs.Regions.{run-none}
+use Rattle.alf_lists.specs.Regions.{between}
+use Rattle.alf_lists.specs.Filled.{Filled}
+use Rattle.alf_lists.proofs.Painted.{fill-none}
+use Rattle.alf_lists.proofs.Regions.{run-none}
 use Rattle.alf_params.specs.Numbers.{fixedNumber}
 use Rattle.alf_params.proofs.FixedFilters.{fixed-more}
 use Rattle.alf_params.proofs.filters.load_fixed.Statement.{statement}

@@ -4,10 +4,10 @@ use Prim.Native.Nat.{_-_, _*_, _≤_}
 use native.Mathlib.Nat.{zero-mul}
 use native.Mathlib.Omega.{arith}
 use borrow.Author.Needs.{needs}
-use Rattle.alf_pieces.specs.Regions.{between}
+use Rattle.alf_lists.specs.Regions.{between}
 use Rattle.alf_pieces.specs.Copies.{pitch, copyAt}
-use Rattle.alf_pieces.proofs.Painted.{Paint, paint-is, paint-none, paint-call}
-use Rattle.alf_pieces.proofs.Regions.{run-none, run-join}
+use Rattle.alf_lists.proofs.Painted.{Paint, paint-is, paint-none, paint-call}
+use Rattle.alf_lists.proofs.Regions.{run-none, run-join}
 use Rattle.alf_pieces.proofs.copies.copy_piece.Statement.{statement}
 use Rattle.alf_pieces.proofs.copies.copy_piece.Tie as tie
 

@@ -4,31 +4,27 @@ use native.Mathlib.Omega.{arith}
 use borrow.Author.Needs.{needs}
 use lib.ListN.{length}
 use Rattle.alf_pieces.specs.Copies.{pitch}
-use Rattle.alf_pieces.proofs.Regions.{row-room}
+use Rattle.alf_lists.proofs.Regions.{row-room}
 use Rattle.alf_pieces.proofs.CopyRows.{row-is, lowest-within, limit-within}
 use Rattle.alf_pieces.proofs.copies.copy_row_of.Statement.{statement}
 use Rattle.alf_pieces.proofs.copies.copy_row_of.Tie as tie
 
 -- the row that is read
-plane-room : (c : tie.After-held) → let s = c .before .before .before .before .before .before .before in
-    c .held .result * s .args .width + s .args .width ≤ length (s .args .plane .now)
-plane-room c = let s = c .before .before .before .before .before .before .before in row-room _ _ _ _ (omega arith) (s .pre .4)
+plane-room : (c : tie.After-row-of) → let s = c .before .before .before in
+    c .row-of .result * s .args .width + s .args .width ≤ length (s .args .plane .now)
+plane-room c = let s = c .before .before .before in row-room _ _ _ _ (omega arith) (s .pre .4)
 
 -- the row that is written
-copy-room : (c : tie.After-extent) → let s = c .before .before .before .before .before .before .before .before .before .before in
+copy-room : (c : tie.After-extent) → let s = c .before .before .before .before .before .before in
     s .args .j * (c .extent .result + 6) + (c .extent .result + 6) ≤ length (s .args .copy .now)
 copy-room c =
-    let s = c .before .before .before .before .before .before .before .before .before .before in
+    let s = c .before .before .before .before .before .before in
     row-room _ (pitch (s .args .rows)) _ _ (s .pre .6) (rw (c .extent .ensures) (s .pre .5))
 
 pub copy-row-of-spec : {M : Type 1} → statement M
 copy-row-of-spec =
     tie.close
     (tie.spec
-    (λ c. search needs)
-    (λ c. search needs)
-    (λ c. search needs)
-    (λ c κs. search needs)
     (λ c κs. search needs)
     (λ c κs. search needs)
     (λ c κs. search needs)
@@ -38,7 +34,7 @@ copy-row-of-spec =
     (λ c. search needs)
     (λ c. omega (arith, copy-room (c .before .before)))
     (λ c κs.
-    let s = c .before .before .before .before .before .before .before .before .before .before .before .before in
+    let s = c .before .before .before .before .before .before .before .before in
     let p = s .pre .0 in
     let n = c .before .before .extent .ensures in
     let low = lowest-within _ _ _ _ p (c .before .before .before .before .row-lowest .ensures) in

@@ -3,10 +3,10 @@ use Prim.Native.Nat.{_-_, _≤_}
 use native.Mathlib.Nat.{le-antisymm}
 use native.Mathlib.Omega.{arith}
 use borrow.Author.Needs.{needs}
-use Rattle.alf_pieces.specs.Regions.{between}
+use Rattle.alf_lists.specs.Regions.{between}
 use Rattle.alf_pieces.specs.Copies.{runAt}
-use Rattle.alf_pieces.proofs.Painted.{Paint, paint-is, paint-none, paint-set}
-use Rattle.alf_pieces.proofs.Regions.{run-none, run-more}
+use Rattle.alf_lists.proofs.Painted.{Paint, paint-is, paint-none, paint-set}
+use Rattle.alf_lists.proofs.Regions.{run-none, run-more}
 use Rattle.alf_pieces.proofs.CopyRows.{run-value}
 use Rattle.alf_pieces.proofs.copies.copy_run.Statement.{statement}
 use Rattle.alf_pieces.proofs.copies.copy_run.Tie as tie

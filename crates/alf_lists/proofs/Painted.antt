@@ -11,7 +11,7 @@ use lib.Seq.{ext-getD, getD-set-same, getD-set-other}
 use borrow.Author.Tests.{eq-eqb, ne-eqb}
 use Rattle.alf_spec.specs.Lists.{tabulate, painted}
 use Rattle.alf_spec.proofs.Lists.{tabulate-at, tabulate-length, painted-at, painted-length}
-use Rattle.alf_pieces.specs.Filled.{Filled}
+use Rattle.alf_lists.specs.Filled.{Filled}
 
 -- ---- lists of every kind of entry
 

@@ -1,4 +1,4 @@
--- `alf_taps::fill` meets its contract: the columns before x are written. Assumes nothing.
+-- `alf_lists::fill` meets its contract: the k places from `at` on are written. Assumes nothing.
 use mathlib.Core.Path.{refl}
 use Prim.Native.Nat.{_-_, _≤_}
 use native.Mathlib.Nat.{le-antisymm}
@@ -8,19 +8,19 @@ use lib.IntN.{pos}
 use mir.Syntax.{w16}
 use mir.Val.{toZ}
 use mir.Facts.{toZ-ofZ}
-use Rattle.alf_pieces.specs.Regions.{between}
-use Rattle.alf_pieces.specs.Filled.{Filled}
-use Rattle.alf_pieces.proofs.Painted.{fill-none, fill-set}
-use Rattle.alf_pieces.proofs.Regions.{run-none, run-more}
-use Rattle.alf_taps.specs.Spread.{same}
-use Rattle.alf_taps.proofs.fill.Statement.{statement}
-use Rattle.alf_taps.proofs.fill.Tie as tie
+use Rattle.alf_lists.specs.Regions.{between}
+use Rattle.alf_lists.specs.Filled.{Filled}
+use Rattle.alf_lists.proofs.Painted.{fill-none, fill-set}
+use Rattle.alf_lists.proofs.Regions.{run-none, run-more}
+use Rattle.alf_lists.specs.Filled.{same}
+use Rattle.alf_lists.proofs.fill.Statement.{statement}
+use Rattle.alf_lists.proofs.fill.Tie as tie
 
 abbrev Inv-loop : tie.InvT-loop
-Inv-loop taps₀ at n v x₀ taps x = (x ≤ n) × Filled (pos 0) taps₀ (between at x) (same (toZ w16 v)) taps
+Inv-loop list₀ at n v k₀ list k = (k ≤ n) × Filled (pos 0) list₀ (between at k) (same (toZ w16 v)) list
 
 abbrev μ-loop : tie.MeasureT-loop
-μ-loop taps₀ at n v x₀ taps x = n - x
+μ-loop list₀ at n v k₀ list k = n - k
 
 returns : tie.Need-returns Inv-loop μ-loop
 returns c =
@@ -40,6 +40,6 @@ fill-spec =
     (λ c. omega arith)
     (λ c. omega arith)
     (λ c. omega arith)
-    (λ c. (omega arith, fill-set _ _ (c .before .loop .inv .1) (omega arith) refl (λ k h. run-more _ _ k)))
+    (λ c. (omega arith, fill-set _ _ (c .before .loop .inv .1) (omega arith) refl (λ j h. run-more _ _ j)))
     (λ c. search needs)
     returns)

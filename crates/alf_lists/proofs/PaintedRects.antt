@@ -3,9 +3,9 @@ use mathlib.Core.Path.{_≡_, refl}
 use mathlib.Core.List.{List}
 use Prim.Native.Nat.{ℕ, _≤_}
 use Rattle.alf_spec.specs.Lists.{painted}
-use Rattle.alf_pieces.specs.Regions.{inRect}
-use Rattle.alf_pieces.proofs.Painted.{Paint, paint-call}
-use Rattle.alf_pieces.proofs.Regions.{rect-beside, rect-stacked}
+use Rattle.alf_lists.specs.Regions.{inRect}
+use Rattle.alf_lists.proofs.Painted.{Paint, paint-call}
+use Rattle.alf_lists.proofs.Regions.{rect-beside, rect-stacked}
 
 -- on by a strip from the column m on
 pub paint-beside : {xs ys zs : List ℕ} {v : ℕ → ℕ} (columns x m x′ y y′ : ℕ) {from : ℕ} → Paint xs (inRect columns x m y y′) v ys

@@ -9,3 +9,7 @@ use lib.ListN.{length, getD}
 pub record Filled {A : Type 0} (d : A) (xs : List A) (test : ℕ → Bool) (value : ℕ → A) (ys : List A) : Type 0 where
   pub len : length ys ≡ length xs
   pub at : (k : ℕ) → k < length xs → getD ys k d ≡ cond (test k) (value k) (getD xs k d)
+
+-- one entry at each place
+abbrev pub same : {A : Type 0} → A → ℕ → A
+same v k = v

@@ -1,0 +1,3 @@
+-- Lists that are written part by part, for the contracts of all crates above.
+pub mod Filled
+pub mod Regions
