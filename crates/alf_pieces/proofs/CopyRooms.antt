@@ -1,4 +1,5 @@
 -- The samples that the copy of a piece takes, and the rows that are read for it. Assumes nothing.
+use mathlib.Core.Path.{_≡_}
 use Prim.Native.Nat.{ℕ, _*_, _≤_}
 use native.Mathlib.Nat.{le-trans, mul-comm, mul-le-mul, mul-le-mul-right}
 use native.Mathlib.Omega.{arith}
@@ -13,6 +14,6 @@ copy-fits {columns = columns} {rows = rows} across down enough =
     let high : pitch rows ≤ 134 = omega (arith, down .small) in
     le-trans (mul-le-mul high wide) enough
 
--- the rows up to the piece's limit are the plane's
-pub rows-fit : {n : ℕ} {rows : Piece} (width : ℕ) → PieceIn n rows → rows .limit * width ≤ width * n
-rows-fit width down = rw (mul-comm width) (mul-le-mul-right width (down .inside))
+-- the rows up to the piece's limit are the plane's, which has so many samples
+pub rows-fit : {n samples : ℕ} {rows : Piece} (width : ℕ) → PieceIn n rows → samples ≡ width * n → rows .limit * width ≤ samples
+rows-fit width down whole = rw (whole, mul-comm width) (mul-le-mul-right width (down .inside))

@@ -29,7 +29,7 @@ copy-piece-requires c κs =
     let across = s .pre .1 in
     let down = s .pre .2 in
     rw (c .before .before .sub-width .ensures .0)
-    (across, down .low, down .filled, down .high, rw (W .chromaLength) (rows-fit _ down), copy-fits across down (W .copyRoom))
+    (across, down .low, down .filled, down .high, rows-fit _ down (W .chromaLength), copy-fits across down (W .copyRoom))
 
 -- what the function is given
 abbrev start : tie.After-copy-piece → tie.Start

@@ -17,7 +17,7 @@ use Rattle.alf_chroma.proofs.piece.spread.Statement.{statement}
 use Rattle.alf_chroma.proofs.piece.spread.Tie as tie
 use Rattle.alf_chroma.proofs.piece.spread.Reads as reads
 use Rattle.alf_chroma.proofs.piece.spread.Lts as lts
-use Rattle.alf_taps.proofs.fill.Reads as fill-reads
+use Rattle.alf_lists.proofs.fill.Reads as fill-reads
 
 abbrev Inv-loop : tie.InvT-loop
 Inv-loop filters n taps₀ j₀ taps j = (j ≤ 6) × (length taps ≡ length taps₀) × Spread filters j n taps × TapNumbers taps

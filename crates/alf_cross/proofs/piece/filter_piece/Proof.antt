@@ -19,7 +19,7 @@ copy-piece-requires c κs =
     let s = c .before .before .before .before .before .before .before in
     let across = s .pre .1 .numbers in
     let down = s .pre .2 .numbers in
-    (across, down .low, down .filled, down .high, rw (s .pre .0 .lumaLength) (rows-fit _ down), copy-fits across down (s .pre .0 .copyRoom))
+    (across, down .low, down .filled, down .high, rows-fit _ down (s .pre .0 .lumaLength), copy-fits across down (s .pre .0 .copyRoom))
 
 -- what the function is given
 abbrev start : tie.After-copy-piece → tie.Start

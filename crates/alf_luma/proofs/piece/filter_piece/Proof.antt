@@ -15,14 +15,14 @@ use Rattle.alf_luma.proofs.piece.filter_piece.Tie as tie
 
 copy-piece-requires : tie.Need-copy-piece-requires
 copy-piece-requires c κs =
-    let s = c .before .before .before .before .before .before .before in
+    let s : tie.Start = search needs in
     let across = s .pre .1 .numbers in
     let down = s .pre .2 .numbers in
-    (across, down .low, down .filled, down .high, rw (s .pre .0 .lumaLength) (rows-fit _ down), copy-fits across down (s .pre .0 .copyRoom))
+    (across, down .low, down .filled, down .high, rows-fit _ down (search needs), copy-fits across down (s .pre .0 .copyRoom))
 
 -- what the function is given
 abbrev start : tie.After-copy-piece → tie.Start
-start c = c .before .before .before .before .before .before .before .before
+start c = search needs
 
 -- the copy has room
 room : (c : tie.After-copy-piece) → let a = start c .args in copyLength (a .columns) (a .rows) ≤ length (a .copy .now)
