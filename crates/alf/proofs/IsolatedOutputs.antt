@@ -10,7 +10,7 @@ use Rattle.alf_spec.specs.Process.{result}
 use Rattle.alf_spec.specs.Faults.{fault}
 use Rattle.alf_spec.specs.Isolation.{outputInside}
 use Rattle.alf_spec.proofs.TwoRuns.{TwoRuns, isolation, result-length}
-use Rattle.alf.specs.Runs.{Ran}
+use Rattle.alf_spec.specs.Runs.{Ran}
 
 -- what an accepted run leaves is the result
 accepted-result : (op : Operation) (i : Input) (n : ℕ) (old new : List ℕ) → Ran op i n old new → fault op i ≡ 0 → new ≡ result op i

@@ -1,16 +1,11 @@
-// The operations on a picture. None asks anything of its caller: each judges what it is given, then works.
-mod chroma_filter;
-mod classification;
-mod cross_filter;
-mod isolation;
-mod luma_filter;
+// The operations on a picture, each from its own crate. None asks anything of its caller: each judges what it is given, then works.
 mod numbers;
 
-pub use chroma_filter::chroma;
-pub use classification::classes;
-pub use cross_filter::cross_component;
-pub use isolation::isolated;
-pub use luma_filter::luma;
+pub use alf_op_chroma::chroma;
+pub use alf_op_classes::classes;
+pub use alf_op_cross::cross_component;
+pub use alf_op_isolated::isolated;
+pub use alf_op_luma::luma;
 pub use numbers::fault_number;
 pub use numbers::isolation_number;
 pub use numbers::number;

@@ -14,3 +14,4 @@ pub mod Process
 pub mod Faults
 pub mod Isolation
 pub mod Answers
+pub mod Runs
