@@ -24,11 +24,11 @@ use Rattle.alf_math.proofs.Grids.{sample-bound}
 use Rattle.alf_luma.specs.Filters.{Places}
 use Rattle.alf_params.proofs.AcceptedTables.{accepted-fixed}
 use Rattle.alf_params.proofs.TableNumbers.{own-tables, index-on}
-use Rattle.alf_filter.specs.declared.Filter.{Filter}
-use Rattle.alf_filter.specs.declared.Filter.the-variants.{Luma, Chroma, CrossComponent}
-use Rattle.alf_filter.specs.Filters.{operationOf, columnRatio, rowRatio, planeOf as filterPlane, isOn, sampleOf}
-use Rattle.alf_filter.specs.Tables.{ComponentOf, FixedGiven, FixedSame, Switched}
-use Rattle.alf_filter.specs.Work.{Given}
+use Rattle.alf_ctb.specs.declared.Filter.{Filter}
+use Rattle.alf_ctb.specs.declared.Filter.the-variants.{Luma, Chroma, CrossComponent}
+use Rattle.alf_ctb.specs.Filters.{operationOf, columnRatio, rowRatio, planeOf as filterPlane, isOn, sampleOf}
+use Rattle.alf_ctb.specs.Tables.{ComponentOf, FixedGiven, FixedSame, Switched}
+use Rattle.alf_ctb.specs.Work.{Given}
 
 -- ---- the plane that a filter writes
 

@@ -15,9 +15,9 @@ use Rattle.alf_math.specs.Grids.{GridOf}
 use Rattle.alf_lists.specs.Regions.{inRect}
 use Rattle.alf_pieces.specs.CtbRegions.{ofCtb}
 use Rattle.alf_pieces.proofs.CtbRegions.{ctb-painted}
-use Rattle.alf_filter.specs.declared.Filter.{Filter}
-use Rattle.alf_filter.specs.Filters.{operationOf, columnRatio, rowRatio}
-use Rattle.alf_filter.proofs.Ratios.{filter-ratios}
+use Rattle.alf_ctb.specs.declared.Filter.{Filter}
+use Rattle.alf_ctb.specs.Filters.{operationOf, columnRatio, rowRatio}
+use Rattle.alf_ctb.proofs.Ratios.{filter-ratios}
 use Rattle.alf_filter.proofs.AcceptedFilters.{output-plane}
 
 -- a multiple of 8 is a whole number of the plane's own samples

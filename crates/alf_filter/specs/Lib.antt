@@ -1,5 +1,2 @@
 -- What the contracts of this crate say beside the definitions of `alf_spec`.
-pub mod Filters
-pub mod Work
-pub mod Tables
 pub mod Regions

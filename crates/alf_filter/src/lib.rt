@@ -1,16 +1,7 @@
-// The three filters, from a piece of a CTB to the plane: one driver for all, since they differ only in what they do with a piece.
+// The three filters, from a CTB to the plane: the listed CTBs whose flag or index is on, over a copy of the input.
 mod addresses;
-mod ctbs;
 mod listed;
-mod pieces;
 mod plane;
-mod tables;
 
+pub use alf_ctb::Filter;
 pub use plane::filter_plane;
-
-// Which filter; a component is 0 (Cb) or 1 (Cr).
-pub enum Filter {
-    Luma,
-    Chroma(u8),
-    CrossComponent(u8),
-}

@@ -12,7 +12,7 @@ use Rattle.alf_spec.specs.Geometry.{ctbTotal, ctbColumns, ctbOf}
 use Rattle.alf_spec.proofs.Tests.{both}
 use Rattle.alf_math.proofs.Grids.{grid-total}
 use Rattle.alf_params.proofs.AcceptedTables.{accepted-tables}
-use Rattle.alf_filter.specs.Filters.{operationOf, isOn}
+use Rattle.alf_ctb.specs.Filters.{operationOf, isOn}
 use Rattle.alf_filter.proofs.AcceptedFilters.{filters-given, component-accepted, switched}
 use Rattle.alf_filter.proofs.FilteredCtbs.{test-passes, test-fails}
 use Rattle.alf_filter.proofs.addresses.filter_address.Statement.{statement}

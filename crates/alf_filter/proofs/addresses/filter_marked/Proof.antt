@@ -18,8 +18,8 @@ use Rattle.alf_math.proofs.Grids.{few-ctbs, grid-total}
 use Rattle.alf_pieces.specs.Copies.{area}
 use Rattle.alf_lists.proofs.Painted.{Paint, paint-is, paint-none, paint-call, paint-same}
 use Rattle.alf_taps.specs.Spread.{TapNumbers}
-use Rattle.alf_filter.specs.declared.Filter.{Filter}
-use Rattle.alf_filter.specs.Filters.{operationOf, isOn, sampleOf}
+use Rattle.alf_ctb.specs.declared.Filter.{Filter}
+use Rattle.alf_ctb.specs.Filters.{operationOf, isOn, sampleOf}
 use Rattle.alf_filter.specs.Regions.{ofCtbIf, filteredBefore}
 use Rattle.alf_filter.proofs.AcceptedFilters.{layout-accepted}
 use Rattle.alf_filter.proofs.FilteredCtbs.{none-before, ctb-more, ctbs-all}

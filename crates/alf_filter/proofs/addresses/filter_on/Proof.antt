@@ -13,7 +13,7 @@ use Rattle.alf_boundary.proofs.CtbAddresses.{ctb-in-grid, ctb-in-picture}
 use Rattle.alf_pieces.proofs.CtbPieces.{ctb-accepted}
 use Rattle.alf_params.proofs.AcceptedTables.{accepted-tables}
 use Rattle.alf_params.proofs.LoadedFilters.{zeros}
-use Rattle.alf_filter.specs.Filters.{operationOf}
+use Rattle.alf_ctb.specs.Filters.{operationOf}
 use Rattle.alf_filter.proofs.AcceptedFilters.{filters-given, layout-accepted, output-size, filter-given, component-accepted, fixed-accepted, fixed-same}
 use Rattle.alf_filter.proofs.CtbFilters.{ctb-done}
 use Rattle.alf_filter.proofs.addresses.filter_on.Statement.{statement}

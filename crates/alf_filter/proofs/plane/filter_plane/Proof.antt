@@ -11,7 +11,7 @@ use Rattle.alf_spec.specs.Process.{isFiltered, atIndex, outputPlane}
 use Rattle.alf_spec.proofs.Accepted.{Accepted}
 use Rattle.alf_math.proofs.Grids.{few-ctbs, few-in-layout}
 use Rattle.alf_lists.proofs.Painted.{paint-of}
-use Rattle.alf_filter.specs.Filters.{operationOf, isOn, sampleOf}
+use Rattle.alf_ctb.specs.Filters.{operationOf, isOn, sampleOf}
 use Rattle.alf_filter.proofs.AcceptedFilters.{layout-accepted, result-is, plane-length, listed-below, without-list}
 use Rattle.alf_filter.proofs.Marks.{marks-listed}
 use Rattle.alf_filter.proofs.plane.filter_plane.Statement.{statement}

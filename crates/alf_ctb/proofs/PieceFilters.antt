@@ -27,9 +27,9 @@ use Rattle.alf_params.specs.Filters.{LumaFilters, ChromaFilter}
 use Rattle.alf_luma.specs.Samples.{LumaWork}
 use Rattle.alf_chroma.specs.Pieces.{ChromaWork}
 use Rattle.alf_cross.specs.Work.{CrossFilter, CrossWork}
-use Rattle.alf_filter.specs.declared.Filter.{Filter}
-use Rattle.alf_filter.specs.declared.Filter.the-variants.{Luma, Chroma, CrossComponent}
-use Rattle.alf_filter.specs.Work.{Given, Rooms, Numbers, PieceFiltered}
+use Rattle.alf_ctb.specs.declared.Filter.{Filter}
+use Rattle.alf_ctb.specs.declared.Filter.the-variants.{Luma, Chroma, CrossComponent}
+use Rattle.alf_ctb.specs.Work.{Given, Rooms, Numbers, PieceFiltered}
 
 -- ---- what they are given
 

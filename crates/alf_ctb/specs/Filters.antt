@@ -13,8 +13,8 @@ use Rattle.alf_spec.specs.CrossComponent.{crossSample}
 use Rattle.alf_spec.specs.Process.{lumaOn, chromaOn, crossOn}
 use Rattle.alf_params.specs.Filters.{LumaFilters, ChromaFilter}
 use Rattle.alf_cross.specs.Work.{CrossFilter}
-use Rattle.alf_filter.specs.declared.Filter.{Filter}
-use Rattle.alf_filter.specs.declared.Filter.the-variants.{Luma, Chroma, CrossComponent}
+use Rattle.alf_ctb.specs.declared.Filter.{Filter}
+use Rattle.alf_ctb.specs.declared.Filter.the-variants.{Luma, Chroma, CrossComponent}
 
 -- its operation
 abbrev pub operationOf : Filter → Operation

@@ -1,4 +1,4 @@
--- `alf_filter::ctbs::filter_strip` meets its contract: the pieces of columns before x are filtered. Assumes nothing.
+-- `alf_ctb::ctbs::filter_strip` meets its contract: the pieces of columns before x are filtered. Assumes nothing.
 use mathlib.Core.Path.{_≡_, refl, ap, _∙_}
 use mathlib.Core.Bool.{false}
 use mathlib.Core.Logic.{inl}
@@ -17,11 +17,11 @@ use Rattle.alf_pieces.proofs.CtbPieces.{column-piece}
 use Rattle.alf_lists.proofs.PaintedRects.{paint-beside}
 use Rattle.alf_pieces.proofs.PieceWalk.{Walk, walk-start, walk-next, walk-done, Turn, turn, turn-less, block-piece, columns-regular}
 use Rattle.alf_taps.specs.Spread.{TapNumbers}
-use Rattle.alf_filter.specs.Filters.{columnRatio}
-use Rattle.alf_filter.specs.Work.{ColumnsFiltered}
-use Rattle.alf_filter.proofs.Ratios.{filter-ratios, own-order, rooms-same}
-use Rattle.alf_filter.proofs.ctbs.filter_strip.Statement.{statement}
-use Rattle.alf_filter.proofs.ctbs.filter_strip.Tie as tie
+use Rattle.alf_ctb.specs.Filters.{columnRatio}
+use Rattle.alf_ctb.specs.Work.{ColumnsFiltered}
+use Rattle.alf_ctb.proofs.Ratios.{filter-ratios, own-order, rooms-same}
+use Rattle.alf_ctb.proofs.ctbs.filter_strip.Statement.{statement}
+use Rattle.alf_ctb.proofs.ctbs.filter_strip.Tie as tie
 
 abbrev Inv-loop : tie.InvT-loop
 Inv-loop filter picture grid virtual-columns ctb sides rows luma chroma filters places copy₀ differences₀ taps₀ output₀ left right x₀ copy differences taps output x =

@@ -7,7 +7,7 @@ ghost use Rattle.alf_spec.specs.Geometry.{ctbSize};
 ghost use Rattle.alf_spec.specs.Faults.{virtualListValid};
 ghost use Rattle.alf_pieces.specs.Pieces.{BlockPiece};
 ghost use Rattle.alf_taps.specs.Spread.{TapNumbers};
-ghost use Rattle.alf_filter.specs.Work.{Given, Rooms, Numbers, ColumnsFiltered, RowsFiltered};
+ghost use Rattle.alf_ctb.specs.Work.{Given, Rooms, Numbers, ColumnsFiltered, RowsFiltered};
 use crate::Filter;
 use crate::pieces::filter_piece;
 use alf_boundary::padding::least;
@@ -71,7 +71,7 @@ fn filter_strip(
 }
 
 // The CTB's samples.
-pub(crate) fn filter_ctb(
+pub fn filter_ctb(
     filter: Filter,
     picture: Picture,
     grid: Grid,

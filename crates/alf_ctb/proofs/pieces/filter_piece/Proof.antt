@@ -1,12 +1,12 @@
--- `alf_filter::pieces::filter_piece` meets its contract: each filter's own function does. Assumes nothing.
+-- `alf_ctb::pieces::filter_piece` meets its contract: each filter's own function does. Assumes nothing.
 use mathlib.Core.Path.{ap, _∙_}
 use Prim.Native.Nat.{ℕ}
 use borrow.Author.Needs.{needs}
 use Rattle.alf_spec.proofs.IsolatedRegions.Ratios.{chroma-ratios}
 use Rattle.alf_pieces.specs.Pieces.{scaled}
-use Rattle.alf_filter.proofs.PieceFilters.{luma-work, chroma-work, cross-work, scaled-in, luma-filtered, chroma-filtered, cross-filtered}
-use Rattle.alf_filter.proofs.pieces.filter_piece.Statement.{statement}
-use Rattle.alf_filter.proofs.pieces.filter_piece.Tie as tie
+use Rattle.alf_ctb.proofs.PieceFilters.{luma-work, chroma-work, cross-work, scaled-in, luma-filtered, chroma-filtered, cross-filtered}
+use Rattle.alf_ctb.proofs.pieces.filter_piece.Statement.{statement}
+use Rattle.alf_ctb.proofs.pieces.filter_piece.Tie as tie
 
 -- what the function is given, from each arm of its match
 abbrev luma-start : tie.After-enum-told → tie.Start

@@ -11,11 +11,11 @@ use Rattle.alf_spec.specs.Parameters.{crossAps, crossIndex, crossCoeff}
 use Rattle.alf_math.specs.Integers.{CoeffRange, ClipRange}
 use Rattle.alf_params.specs.Filters.{LumaFilters, FilterNumbers, ChromaFilter}
 use Rattle.alf_params.specs.Tables.{TablesOf, FixedOf}
-use Rattle.alf_filter.specs.declared.Filter.{Filter}
-use Rattle.alf_filter.specs.declared.Filter.the-variants.{Luma, Chroma, CrossComponent}
-use Rattle.alf_filter.specs.Filters.{OwnFilter}
-use Rattle.alf_filter.specs.Work.{Numbers}
-use Rattle.alf_filter.specs.Tables.{FixedSame}
+use Rattle.alf_ctb.specs.declared.Filter.{Filter}
+use Rattle.alf_ctb.specs.declared.Filter.the-variants.{Luma, Chroma, CrossComponent}
+use Rattle.alf_ctb.specs.Filters.{OwnFilter}
+use Rattle.alf_ctb.specs.Work.{Numbers}
+use Rattle.alf_ctb.specs.Tables.{FixedSame}
 
 -- the numbers that stand in a list are those of the CTB's filter
 module _ (f : Filter) (filters : List ℤ) (depth : ℕ) (fixedFilters : List ℤ) (fixedMap sliceMap sliceParams : List ℕ) (bank : List ℤ) (ctbParams : List ℕ) (k : ℕ) where

@@ -1,4 +1,4 @@
--- `alf_filter::ctbs::filter_ctb` meets its contract: the strips above y are filtered. Assumes nothing.
+-- `alf_ctb::ctbs::filter_ctb` meets its contract: the strips above y are filtered. Assumes nothing.
 use mathlib.Core.Path.{_≡_, refl, ap, _∙_}
 use mathlib.Core.Bool.{true}
 use mathlib.Core.Logic.{inr}
@@ -17,11 +17,11 @@ use Rattle.alf_pieces.proofs.CtbPieces.{row-piece}
 use Rattle.alf_lists.proofs.PaintedRects.{paint-stacked}
 use Rattle.alf_pieces.proofs.PieceWalk.{Walk, walk-start, walk-next, walk-done, Turn, turn, turn-less, block-piece, rows-regular}
 use Rattle.alf_taps.specs.Spread.{TapNumbers}
-use Rattle.alf_filter.specs.Filters.{rowRatio}
-use Rattle.alf_filter.specs.Work.{RowsFiltered}
-use Rattle.alf_filter.proofs.Ratios.{filter-ratios, own-order, rooms-same}
-use Rattle.alf_filter.proofs.ctbs.filter_ctb.Statement.{statement}
-use Rattle.alf_filter.proofs.ctbs.filter_ctb.Tie as tie
+use Rattle.alf_ctb.specs.Filters.{rowRatio}
+use Rattle.alf_ctb.specs.Work.{RowsFiltered}
+use Rattle.alf_ctb.proofs.Ratios.{filter-ratios, own-order, rooms-same}
+use Rattle.alf_ctb.proofs.ctbs.filter_ctb.Statement.{statement}
+use Rattle.alf_ctb.proofs.ctbs.filter_ctb.Tie as tie
 
 abbrev Inv-loop : tie.InvT-loop
 Inv-loop filter picture grid virtual-columns virtual-rows ctb sides luma chroma filters places copy₀ differences₀ taps₀ output₀ top bottom y₀ copy differences taps output y =

@@ -7,9 +7,9 @@ ghost use Rattle.alf_spec.specs.Input.{Input};
 ghost use Rattle.alf_spec.specs.Geometry.{address};
 ghost use Rattle.alf_spec.specs.declared.Ctb.{Ctb};
 ghost use Rattle.alf_params.specs.Tables.{CtbTables, TablesOf};
-ghost use Rattle.alf_filter.specs.Filters.{isOn, OwnFilter};
-ghost use Rattle.alf_filter.specs.Work.{Numbers};
-ghost use Rattle.alf_filter.specs.Tables.{ComponentOf, FixedGiven, FixedSame, Switched};
+ghost use Rattle.alf_ctb.specs.Filters.{isOn, OwnFilter};
+ghost use Rattle.alf_ctb.specs.Work.{Numbers};
+ghost use Rattle.alf_ctb.specs.Tables.{ComponentOf, FixedGiven, FixedSame, Switched};
 use crate::Filter;
 use alf_params::chroma_on;
 use alf_params::cross_on;
@@ -19,7 +19,7 @@ use alf_params::load_luma;
 use alf_params::luma_on;
 
 // The flag or index of the CTB at address k.
-pub(crate) fn is_on(filter: Filter, ctb_params: &[u8], k: usize) -> bool
+pub fn is_on(filter: Filter, ctb_params: &[u8], k: usize) -> bool
     requires { ⌜ (ComponentOf filter) × (8 * k + 8 ≤ length (now «ctb_params»)) ⌝ }
     ensures { λ r. ⌜ ((i : Input) (c : Ctb) → i .ctbParams ≡ now («ctb_params» .entry) → address (i .layout) c ≡ k → r ≡ isOn filter i c) ⌝ }
 {
@@ -31,7 +31,7 @@ pub(crate) fn is_on(filter: Filter, ctb_params: &[u8], k: usize) -> bool
 }
 
 // The numbers of its filter.
-pub(crate) fn load(
+pub fn load(
     filter: Filter,
     depth: u32,
     k: usize,

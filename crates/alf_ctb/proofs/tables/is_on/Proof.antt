@@ -1,11 +1,11 @@
--- `alf_filter::tables::is_on` meets its contract. Assumes nothing.
+-- `alf_ctb::tables::is_on` meets its contract. Assumes nothing.
 use mathlib.Core.Path.{sym, ap, subst, _∙_}
 use borrow.Author.Needs.{needs}
-use Rattle.alf_filter.specs.declared.Filter.{Filter}
-use Rattle.alf_filter.specs.Filters.{isOn}
-use Rattle.alf_filter.specs.Tables.{ComponentOf}
-use Rattle.alf_filter.proofs.tables.is_on.Statement.{statement}
-use Rattle.alf_filter.proofs.tables.is_on.Tie as tie
+use Rattle.alf_ctb.specs.declared.Filter.{Filter}
+use Rattle.alf_ctb.specs.Filters.{isOn}
+use Rattle.alf_ctb.specs.Tables.{ComponentOf}
+use Rattle.alf_ctb.proofs.tables.is_on.Statement.{statement}
+use Rattle.alf_ctb.proofs.tables.is_on.Tie as tie
 
 pub is-on-spec : {M : Type 1} → statement M
 is-on-spec =

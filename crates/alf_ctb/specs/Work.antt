@@ -24,9 +24,9 @@ use Rattle.alf_pieces.specs.Copies.{area}
 use Rattle.alf_taps.specs.Spread.{TapNumbers}
 use Rattle.alf_params.specs.Filters.{FilterNumbers}
 use Rattle.alf_luma.specs.Filters.{Places}
-use Rattle.alf_filter.specs.declared.Filter.{Filter}
-use Rattle.alf_filter.specs.declared.Filter.the-variants.{Luma, Chroma, CrossComponent}
-use Rattle.alf_filter.specs.Filters.{operationOf, columnRatio, rowRatio, sampleOf, OwnFilter}
+use Rattle.alf_ctb.specs.declared.Filter.{Filter}
+use Rattle.alf_ctb.specs.declared.Filter.the-variants.{Luma, Chroma, CrossComponent}
+use Rattle.alf_ctb.specs.Filters.{operationOf, columnRatio, rowRatio, sampleOf, OwnFilter}
 
 -- an accepted picture, its planes as far as the filter is given them, and the tap order
 pub record Given (f : Filter) (p : Picture) (g : Grid) (lumaSamples chromaSamples places : List ℕ) : Type 0 where

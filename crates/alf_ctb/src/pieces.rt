@@ -2,7 +2,7 @@
 ghost use lib.ListN.{length};
 ghost use Rattle.alf_pieces.specs.Pieces.{BlockPiece};
 ghost use Rattle.alf_taps.specs.Spread.{TapNumbers};
-ghost use Rattle.alf_filter.specs.Work.{Given, Rooms, Numbers, PieceFiltered};
+ghost use Rattle.alf_ctb.specs.Work.{Given, Rooms, Numbers, PieceFiltered};
 use crate::Filter;
 use alf_math::grid::sub_height;
 use alf_math::grid::sub_width;
@@ -14,7 +14,7 @@ use alf_spec::Sides;
 
 // The samples of a piece of the luma plane, or the chroma samples that lie in it, by the filter: those of every input in which a CTB has these
 // sides and this filter's numbers, and the piece is one of its pieces.
-pub(crate) fn filter_piece(
+pub fn filter_piece(
     filter: Filter,
     picture: Picture,
     grid: Grid,

@@ -1,12 +1,12 @@
--- `alf_filter::tables::load` meets its contract. Assumes nothing.
+-- `alf_ctb::tables::load` meets its contract. Assumes nothing.
 use mathlib.Core.Path.{subst}
 use native.Mathlib.Omega.{arith}
 use borrow.Author.Needs.{needs}
-use Rattle.alf_filter.specs.declared.Filter.{Filter}
-use Rattle.alf_filter.specs.Tables.{ComponentOf, FixedGiven, Switched}
-use Rattle.alf_filter.proofs.TableFilters.{luma-loaded, chroma-loaded, cross-loaded}
-use Rattle.alf_filter.proofs.tables.load.Statement.{statement}
-use Rattle.alf_filter.proofs.tables.load.Tie as tie
+use Rattle.alf_ctb.specs.declared.Filter.{Filter}
+use Rattle.alf_ctb.specs.Tables.{ComponentOf, FixedGiven, Switched}
+use Rattle.alf_ctb.proofs.TableFilters.{luma-loaded, chroma-loaded, cross-loaded}
+use Rattle.alf_ctb.proofs.tables.load.Statement.{statement}
+use Rattle.alf_ctb.proofs.tables.load.Tie as tie
 
 load-luma-requires : tie.Need-load-luma-requires
 load-luma-requires c κs =

@@ -7,10 +7,10 @@ use lib.IntN.{ℤ}
 use Rattle.alf_spec.specs.declared.Picture.{Picture}
 use Rattle.alf_spec.proofs.IsolatedRegions.Ratios.{Ratio, whole, half, chroma-ratios}
 use Rattle.alf_taps.specs.Spread.{TapNumbers}
-use Rattle.alf_filter.specs.declared.Filter.{Filter}
-use Rattle.alf_filter.specs.declared.Filter.the-variants.{Luma, Chroma, CrossComponent}
-use Rattle.alf_filter.specs.Filters.{columnRatio, rowRatio}
-use Rattle.alf_filter.specs.Work.{Rooms}
+use Rattle.alf_ctb.specs.declared.Filter.{Filter}
+use Rattle.alf_ctb.specs.declared.Filter.the-variants.{Luma, Chroma, CrossComponent}
+use Rattle.alf_ctb.specs.Filters.{columnRatio, rowRatio}
+use Rattle.alf_ctb.specs.Work.{Rooms}
 
 pub filter-ratios : (f : Filter) (p : Picture) → Ratio (columnRatio f p) × Ratio (rowRatio f p)
 filter-ratios Luma p = (whole, whole)

@@ -1,0 +1,16 @@
+// A CTB, filtered: which filter, the numbers it has in the CTB, and its samples piece by piece. One driver for the three filters, since they differ only
+// in where a CTB's numbers stand and in what they do with a piece.
+mod ctbs;
+mod pieces;
+mod tables;
+
+pub use ctbs::filter_ctb;
+pub use tables::is_on;
+pub use tables::load;
+
+// Which filter; a component is 0 (Cb) or 1 (Cr).
+pub enum Filter {
+    Luma,
+    Chroma(u8),
+    CrossComponent(u8),
+}
