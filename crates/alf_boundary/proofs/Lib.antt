@@ -4,5 +4,4 @@ pub mod CtbAddresses
 pub mod CtbSides
 pub mod Lists
 pub mod PaddedPositions
-pub mod PaddedWithin
 pub mod Tables
