@@ -1,4 +1,5 @@
 -- `alf_isolation::neighbours::neighbours_inside` meets its contract. Assumes nothing.
+use mathlib.Core.Bool.{_&&_}
 use borrow.Author.Needs.{needs}
 use Rattle.alf_isolation.specs.Steps.{neighboursInside}
 use Rattle.alf_isolation.proofs.BlockBounds.{upper-left, lower-left, upper-right, lower-right}
@@ -22,4 +23,13 @@ neighbours-inside-spec =
     (λ c κs. (search needs, search upper-right))
     (λ c. search needs)
     (λ c κs. search lower-right)
-    (λ c. cc))
+    (λ c.
+    let right = c .before .before .before in
+    let left = right .before .before in
+    let above = left .before .before in
+    let stacked = above .before .before .before in
+    let beside = stacked .before .before in
+    λ t. (beside .before .inside-before .ensures t && beside .inside-after .ensures t)
+    && ((stacked .before .inside-before2 .ensures t && stacked .inside-after2 .ensures t)
+    && ((above .inside-before3 .ensures t && left .inside-after3 .ensures t)
+    && (right .inside-before4 .ensures t && c .inside-after4 .ensures t)))))

@@ -15,4 +15,4 @@ block-sides-spec =
     (λ c κs. search needs)
     (λ c. search needs)
     (λ c. search needs)
-    (λ c. cc))
+    (λ c. rw (c .before .before .before .step-is-open .ensures, c .before .before .step-is-open2 .ensures)))
