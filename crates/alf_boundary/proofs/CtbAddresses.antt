@@ -1,28 +1,15 @@
--- The CTBs of an accepted layout by their addresses: where one lies, what the isolation test needs to know of it, and what its answer says.
--- Assumes nothing.
-use mathlib.Core.Path.{_≡_, sym, _∙_, ap}
-use mathlib.Core.Bool.{Bool}
-use mathlib.Core.List.{List}
+-- The CTBs of an accepted layout by their addresses: where one lies in the grid and in the picture. Assumes nothing.
+use mathlib.Core.Path.{_≡_}
 use Prim.Native.Nat.{ℕ, suc, _+_, _-_, _*_, _/_, _%_, _<_}
 use native.Mathlib.Nat.{mul-comm, mod-lt, div-lt-iff-lt-mul, le-div-iff-mul-le}
 use native.Mathlib.Omega.{arith}
 use Rattle.alf_spec.specs.declared.Grid.{Grid}
-use Rattle.alf_spec.specs.declared.Sides.{Sides}
-use Rattle.alf_spec.specs.Lists.{allBelow}
 use Rattle.alf_spec.specs.Input.{Layout}
-use Rattle.alf_spec.specs.Geometry.{ctbSize, planeOf}
-use Rattle.alf_spec.specs.Isolation.{isolated}
-use Rattle.alf_spec.specs.Faults.{isolationFault}
-use Rattle.alf_spec.proofs.Accepted.{Accepted, accepted-layout, accepted-region}
-use Rattle.alf_spec.proofs.Axes.{regular-columns, regular-rows}
+use Rattle.alf_spec.specs.Geometry.{ctbSize}
+use Rattle.alf_spec.proofs.Accepted.{Accepted}
 use Rattle.alf_math.specs.Grids.{ctbsAlong, GridOf}
-use Rattle.alf_math.proofs.Grids.{width-bounds, height-bounds, grid-columns, grid-total}
-use Rattle.alf_boundary.specs.Tables.{TablesOf, SidesOf}
-use Rattle.alf_boundary.specs.Blocks.{ctbPasses}
-use Rattle.alf_boundary.specs.Steps.{ctbTest, addressPasses, BlocksOf}
+use Rattle.alf_boundary.specs.Tables.{TablesOf}
 use Rattle.alf_boundary.proofs.Tables.{tables-of}
-use Rattle.alf_boundary.proofs.CtbOrder.{isolated-by-ctbs}
-use Rattle.alf_boundary.proofs.CtbSteps.{ctb-by-sides}
 
 -- the CTB at place q of n samples begins before their end
 begins : (s n q : ℕ) {count : ℕ} → 0 < s → count ≡ (n + (s - 1)) / s → q < count → q * s < n
@@ -43,46 +30,3 @@ module _ (l : Layout) (ok : Accepted l) {g : Grid} (h : GridOf (l .picture) g) (
       let column : k % g .columns * ctbSize (l .picture) < l .picture .width = begins _ _ _ positive (h .columns) (ctb-in-grid .2) in
       let row : k / g .columns * ctbSize (l .picture) < l .picture .height = begins _ _ _ positive (h .rows) (ctb-in-grid .3) in
       (rw (h .ctb) column, rw (h .ctb) row)
-
--- of an accepted layout and region
-module _ (l : Layout) (region : List ℕ) (accepted : isolationFault l region ≡ 0) (g : Grid) (h : GridOf (l .picture) g) where
-  ok : Accepted l
-  ok = accepted-layout l region accepted
-
-  blocks-of : BlocksOf (l .picture) (g .ctb) region
-  unfolding planeOf
-  blocks-of = record {
-    ctbLow = h .ctbLow;
-    ctb8 = rw (h .ctb) (regular-columns l ok 8 8 .ctb8);
-    widthHigh = width-bounds (l .picture) (ok .sizes) (ok .ctbSize) .1;
-    width8 = regular-columns l ok 8 8 .size8;
-    heightHigh = height-bounds (l .picture) (ok .sizes) (ok .ctbSize) .1;
-    height8 = regular-rows l ok 8 8 .size8;
-    numbers = accepted-region l region accepted;
-  }
-
-  -- the code's answer for all CTBs
-  pub isolated-test : {r : Bool} → r ≡ allBelow (g .columns * g .rows) (addressPasses l region) → r ≡ isolated l region
-  unfolding addressPasses
-  isolated-test e = e ∙ rw (grid-total l g h) (sym (isolated-by-ctbs l region accepted))
-
-  -- the CTB at address k
-  module _ (k : ℕ) (below : k < g .columns * g .rows) where
-    -- it is in the grid, and the tables have its entries
-    pub in-grid : (GridOf (l .picture) g) × (TablesOf g (l .tileColumns) (l .tileRows) (l .sliceMap) (l .subpicMap) (l .subpicAcross))
-        × (k % g .columns < g .columns) × (k / g .columns < g .rows)
-    in-grid = ctb-in-grid l ok h k below
-
-    -- it begins in the picture, and the region has its blocks
-    pub in-region : (BlocksOf (l .picture) (g .ctb) region)
-        × (k % g .columns * g .ctb < l .picture .width) × (k / g .columns * g .ctb < l .picture .height)
-    in-region = let begin = ctb-in-picture l ok h k below in (blocks-of, begin .0, begin .1)
-
-    -- the code's answer for a CTB with these sides
-    pub address-passes : {s : Sides} → SidesOf l (record { column = k % g .columns; row = k / g .columns }) s → {r : Bool}
-        → r ≡ ctbTest (l .picture) (g .ctb) (l .virtualColumns) (l .virtualRows) region (record { column = k % g .columns; row = k / g .columns }) s
-        → r ≡ addressPasses l region k
-    unfolding addressPasses
-    address-passes sides e =
-        e ∙ rw (h .ctb) (ctb-by-sides l ok region _ _ sides)
-        ∙ ap (λ (n : ℕ). ctbPasses l region (record { column = k % n; row = k / n })) (grid-columns l g h)

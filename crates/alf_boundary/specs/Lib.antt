@@ -1,7 +1,5 @@
 -- What the contracts of this crate say beside the definitions of `alf_spec`.
-pub mod Blocks
 pub mod Clips
 pub mod Memberships
 pub mod Spans
-pub mod Steps
 pub mod Tables

@@ -6,7 +6,7 @@ ghost use Rattle.alf_spec.specs.Input.{layoutOf};
 ghost use Rattle.alf_spec.specs.Faults.{isolationFault};
 ghost use Rattle.alf_spec.specs.Isolation.{isolated as isolatedBy};
 ghost use Rattle.alf_spec.specs.Answers.{isolationNumber, saysIsolated};
-use alf_boundary::isolation::region_isolated;
+use alf_isolation::region_isolated;
 use alf_spec::Answer;
 use alf_spec::Isolation;
 use alf_spec::Picture;
