@@ -1,7 +1,7 @@
 -- `alf_validate::judges::judge_chroma` meets its contract: its own tests are of the component, the chroma plane and the output. Assumes nothing.
 use mathlib.Core.Path.{refl, _∙_}
 use borrow.Author.Needs.{needs}
-use Rattle.alf_validate.proofs.FilterTables.{chroma-fault}
+use Rattle.alf_validate.proofs.OwnTests.{chroma-fault}
 use Rattle.alf_validate.proofs.judges.judge_chroma.Statement.{statement}
 use Rattle.alf_validate.proofs.judges.judge_chroma.Tie as tie
 

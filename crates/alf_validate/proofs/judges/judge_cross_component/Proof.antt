@@ -3,8 +3,8 @@ use mathlib.Core.Path.{refl, _∙_}
 use mathlib.Core.List.{[]}
 use borrow.Author.Needs.{needs}
 use Rattle.alf_spec.specs.Geometry.{planeOf}
-use Rattle.alf_validate.specs.Tables.{mapLayout}
-use Rattle.alf_validate.proofs.FilterTables.{cross-fault}
+use Rattle.alf_validate_tables.specs.Tables.{mapLayout}
+use Rattle.alf_validate.proofs.OwnTests.{cross-fault}
 use Rattle.alf_validate.proofs.judges.judge_cross_component.Statement.{statement}
 use Rattle.alf_validate.proofs.judges.judge_cross_component.Tie as tie
 

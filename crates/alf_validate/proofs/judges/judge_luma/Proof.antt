@@ -3,7 +3,7 @@ use mathlib.Core.Path.{_∙_}
 use borrow.Author.Needs.{needs}
 use Rattle.alf_spec.specs.Geometry.{planeOf}
 use Rattle.alf_spec.specs.Faults.{fixedLengthsValid}
-use Rattle.alf_validate.proofs.FilterTables.{luma-fault}
+use Rattle.alf_validate.proofs.OwnTests.{luma-fault}
 use Rattle.alf_validate.proofs.judges.judge_luma.Statement.{statement}
 use Rattle.alf_validate.proofs.judges.judge_luma.Tie as tie
 
