@@ -11,4 +11,4 @@ picture-size-valid-spec =
     (tie.spec
     (λ c κs. search needs)
     (λ c κs. search needs)
-    (λ c. cc))
+    (λ c. rw (c .before .size-valid .ensures, c .size-valid2 .ensures)))

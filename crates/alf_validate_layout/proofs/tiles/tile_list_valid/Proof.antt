@@ -11,4 +11,4 @@ tile-list-valid-spec =
     (tie.spec
     (λ c κs. search needs)
     (λ c κs. search needs)
-    (λ c. cc))
+    (λ c. rw (c .before .starts-at-zero .ensures, c .each-follows .ensures)))

@@ -11,4 +11,4 @@ tiles-valid-spec =
     (tie.spec
     (λ c κs. search needs)
     (λ c κs. search needs)
-    (λ c l u v. rw (u, v) (cc)))
+    (λ c l u v. rw (u, v, c .before .tile-list-valid .ensures, c .tile-list-valid2 .ensures)))
