@@ -33,23 +33,24 @@ module _ (l : Layout) (plane : List ℕ) (n : ℕ) {r : Bool} (e : r ≡ samples
 
 -- a filter's fault, where its code has the answers to its own tests: what the filter is not given is empty, and passes
 module _ (l : Layout) (sliceParams : List ℕ) (bank : List ℤ) (ctbParams ctbList : List ℕ) (n : ℕ) where
-  pub luma-fault : (fixedFilters : List ℤ) (fixedMap plane : List ℕ) {given output : Bool}
+  pub luma-fault : (fixedFilters : List ℤ) (fixedMap plane : List ℕ) {given output : Bool} {m : ℕ}
       → given ≡ eqb (length plane) (planeLength (lumaPlane l)) → output ≡ eqb n (planeLength (lumaPlane l))
       → let i = lumaInput l sliceParams bank ctbParams ctbList fixedFilters fixedMap plane n in
-      filterFault i true (fixedLengthsValid i && (given && output)) ≡ fault luma i
+      m ≡ filterFault i true (fixedLengthsValid i && (given && output)) → m ≡ fault luma i
   unfolding filterFault fault componentValid lengthsValid filterTablesFault tablesFault samplesValid everyFrom
-  luma-fault fixedFilters fixedMap plane e f = rw (e, f)
+  luma-fault fixedFilters fixedMap plane e f q = q ∙ rw (e, f)
 
-  pub chroma-fault : (component : ℕ) (plane : List ℕ) {valid given output : Bool} → valid ≡ componentValid (chroma component) (l .picture)
+  pub chroma-fault : (component : ℕ) (plane : List ℕ) {valid given output : Bool} {m : ℕ} → valid ≡ componentValid (chroma component) (l .picture)
       → given ≡ eqb (length plane) (planeLength (chromaPlane l)) → output ≡ eqb n (planeLength (chromaPlane l))
-      → let i = chromaInput l sliceParams bank ctbParams ctbList plane n in filterFault i valid (given && output) ≡ fault (chroma component) i
+      → let i = chromaInput l sliceParams bank ctbParams ctbList plane n in
+      m ≡ filterFault i valid (given && output) → m ≡ fault (chroma component) i
   unfolding filterFault fault lengthsValid filterTablesFault tablesFault fixedValid samplesValid everyFrom
-  chroma-fault component plane v e f = rw (v, e, f)
+  chroma-fault component plane v e f q = q ∙ rw (v, e, f)
 
-  pub cross-fault : (component : ℕ) (lumaSamples chromaSamples : List ℕ) {valid givenLuma givenChroma output : Bool}
+  pub cross-fault : (component : ℕ) (lumaSamples chromaSamples : List ℕ) {valid givenLuma givenChroma output : Bool} {m : ℕ}
       → valid ≡ componentValid (crossComponent component) (l .picture) → givenLuma ≡ eqb (length lumaSamples) (planeLength (lumaPlane l))
       → givenChroma ≡ eqb (length chromaSamples) (planeLength (chromaPlane l)) → output ≡ eqb n (planeLength (chromaPlane l))
       → let i = crossInput l sliceParams bank ctbParams ctbList lumaSamples chromaSamples n in
-      filterFault i valid (givenLuma && (givenChroma && output)) ≡ fault (crossComponent component) i
+      m ≡ filterFault i valid (givenLuma && (givenChroma && output)) → m ≡ fault (crossComponent component) i
   unfolding filterFault fault lengthsValid filterTablesFault tablesFault fixedValid everyFrom
-  cross-fault component lumaSamples chromaSamples v e f g = rw (v, e, f, g)
+  cross-fault component lumaSamples chromaSamples v e f g q = q ∙ rw (v, e, f, g)
