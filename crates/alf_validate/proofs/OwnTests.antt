@@ -31,7 +31,7 @@ module _ (l : Layout) (plane : List ℕ) (n : ℕ) {r : Bool} (e : r ≡ samples
   unfolding tablesFault unless
   classes-pass q = goes 12 0 (e ∙ sym (and-true _)) q refl
 
--- a filter's fault, where its code has the answers to its own tests: what the filter is not given is empty, and passes
+-- a filter, whose code has the answers to its own tests and the number m that comes of them: what the filter is not given is empty, and passes
 module _ (l : Layout) (sliceParams : List ℕ) (bank : List ℤ) (ctbParams ctbList : List ℕ) (n : ℕ) where
   pub luma-fault : (fixedFilters : List ℤ) (fixedMap plane : List ℕ) {given output : Bool} {m : ℕ}
       → given ≡ eqb (length plane) (planeLength (lumaPlane l)) → output ≡ eqb n (planeLength (lumaPlane l))

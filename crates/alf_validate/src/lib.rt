@@ -1,4 +1,4 @@
-// Judging an input: the lowest fault of each operation's input. None asks anything of its caller.
+// Judging an input: the lowest fault, by paper 01's table, of each operation's input. No judge asks anything of its caller.
 mod isolation;
 mod judges;
 
