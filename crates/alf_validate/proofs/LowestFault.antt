@@ -20,8 +20,9 @@ use Rattle.alf_spec.proofs.Tests.{and-same, both}
 use Rattle.alf_spec.proofs.Accepted.{Accepted, table-lengths, chain}
 use Rattle.alf_spec.proofs.Faults.{layout-leaves, layout-goes}
 use Rattle.alf_math.proofs.Grids.{few-in-layout}
-use Rattle.alf_validate.specs.Tables.{mapLayout, tablesInput, filterTablesFault, TablesFit, filterFault}
-use Rattle.alf_validate.proofs.FilterTables.{tablesOf, tables-of}
+use Rattle.alf_validate_tables.specs.Tables.{mapLayout, tablesInput, filterTablesFault, TablesFit}
+use Rattle.alf_validate_tables.proofs.FilterTables.{tablesOf, tables-of}
+use Rattle.alf_validate.specs.Filters.{filterFault}
 
 -- a test that counts only where the one before it passes
 beside : (a b c : Bool) → (a ≡ true → b ≡ c) → (a && b) ≡ (a && c)

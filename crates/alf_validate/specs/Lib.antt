@@ -1,4 +1,2 @@
 -- What the contracts of this crate say beside the definitions of `alf_spec`.
-pub mod Chains
-pub mod Rules
-pub mod Tables
+pub mod Filters

@@ -3,12 +3,12 @@ ghost use mathlib.Core.Path.{_≡_};
 ghost use Rattle.alf_spec.specs.Input.{layoutOf};
 ghost use Rattle.alf_spec.specs.Answers.{number};
 ghost use Rattle.alf_spec.specs.Faults.{isolationFault};
-use crate::layout::layout_fault;
-use crate::region::region_length_valid;
-use crate::region::region_valid;
 use alf_spec::Answer;
 use alf_spec::Fault;
 use alf_spec::Picture;
+use alf_validate_layout::layout::layout_fault;
+use alf_validate_tables::region::region_length_valid;
+use alf_validate_tables::region::region_valid;
 
 // The lowest cause for which the isolation test rejects its input, a layout and a region.
 pub fn judge_isolation(

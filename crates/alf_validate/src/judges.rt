@@ -5,16 +5,16 @@ ghost use Prim.Native.Nat.{ℕ};
 ghost use Rattle.alf_spec.specs.Input.{layoutOf, classes, luma as ofLuma, chroma as ofChroma, crossComponent, inputOf, classesInput, lumaInput, chromaInput, crossInput};
 ghost use Rattle.alf_spec.specs.Answers.{number};
 ghost use Rattle.alf_spec.specs.Faults.{componentValid, fault};
-ghost use Rattle.alf_validate.specs.Tables.{filterFault};
-use crate::filter_tables::filter_tables_fault;
-use crate::layout::layout_fault;
-use crate::operation_lengths::chroma_fits;
-use crate::operation_lengths::filter_tables_fit;
-use crate::operation_lengths::plane_fits;
-use crate::samples::samples_valid;
+ghost use Rattle.alf_validate.specs.Filters.{filterFault};
 use alf_spec::Answer;
 use alf_spec::Fault;
 use alf_spec::Picture;
+use alf_validate_layout::layout::layout_fault;
+use alf_validate_tables::filter_tables::filter_tables_fault;
+use alf_validate_tables::operation_lengths::chroma_fits;
+use alf_validate_tables::operation_lengths::filter_tables_fit;
+use alf_validate_tables::operation_lengths::plane_fits;
+use alf_validate_tables::samples::samples_valid;
 
 // Whether there is chroma, and the component is Cb or Cr.
 fn component_valid(picture: Picture, component: u8) -> bool

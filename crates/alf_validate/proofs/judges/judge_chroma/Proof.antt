@@ -1,7 +1,7 @@
 -- `alf_validate::judges::judge_chroma` meets its contract: its own tests are of the component, the chroma plane and the output. Assumes nothing.
-use mathlib.Core.Path.{refl, _∙_}
+use mathlib.Core.Path.{refl}
 use borrow.Author.Needs.{needs}
-use Rattle.alf_validate.proofs.FilterTables.{chroma-fault}
+use Rattle.alf_validate.proofs.OwnTests.{chroma-fault}
 use Rattle.alf_validate.proofs.judges.judge_chroma.Statement.{statement}
 use Rattle.alf_validate.proofs.judges.judge_chroma.Tie as tie
 
@@ -19,5 +19,5 @@ judge-chroma-spec =
     (λ c.
     let v = c .before .before .before .before in
     let b = v .before in
-    c .judge-filter .ensures _ ∙
-    chroma-fault _ _ _ _ _ _ _ _ (v .component-valid .ensures .0) (b .before .chroma-fits .ensures _ refl) (b .chroma-fits2 .ensures _ refl)))
+    chroma-fault _ _ _ _ _ _ _ _ (v .component-valid .ensures .0) (b .before .chroma-fits .ensures _ refl) (b .chroma-fits2 .ensures _ refl)
+    (c .judge-filter .ensures _)))

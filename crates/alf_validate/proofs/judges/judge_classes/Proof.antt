@@ -3,9 +3,8 @@ use borrow.Author.Needs.{needs}
 use Rattle.alf_spec.specs.Geometry.{planeOf}
 use Rattle.alf_spec.specs.Faults.{componentValid, fault}
 use Rattle.alf_spec.proofs.Faults.{layout-leaves, layout-goes}
-use Rattle.alf_validate.proofs.TableLengths.{classes-lengths}
-use Rattle.alf_validate.proofs.FilterTables.{classes-stop, classes-pass}
 use Rattle.alf_validate.proofs.LowestFault.{depth-of}
+use Rattle.alf_validate.proofs.OwnTests.{classes-lengths, classes-stop, classes-pass}
 use Rattle.alf_validate.proofs.judges.judge_classes.Statement.{statement}
 use Rattle.alf_validate.proofs.judges.judge_classes.Tie as tie
 

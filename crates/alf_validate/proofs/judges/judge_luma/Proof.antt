@@ -1,9 +1,8 @@
 -- `alf_validate::judges::judge_luma` meets its contract: its own tests are of the fixed tables, the luma plane and the output. Assumes nothing.
-use mathlib.Core.Path.{_∙_}
 use borrow.Author.Needs.{needs}
 use Rattle.alf_spec.specs.Geometry.{planeOf}
 use Rattle.alf_spec.specs.Faults.{fixedLengthsValid}
-use Rattle.alf_validate.proofs.FilterTables.{luma-fault}
+use Rattle.alf_validate.proofs.OwnTests.{luma-fault}
 use Rattle.alf_validate.proofs.judges.judge_luma.Statement.{statement}
 use Rattle.alf_validate.proofs.judges.judge_luma.Tie as tie
 
@@ -20,4 +19,4 @@ judge-luma-spec =
     (λ c κs. search needs)
     (λ c.
     let b = c .before .before in
-    c .judge-filter .ensures _ ∙ luma-fault _ _ _ _ _ _ _ _ _ (b .before .plane-fits .ensures) (b .plane-fits2 .ensures)))
+    luma-fault _ _ _ _ _ _ _ _ _ (b .before .plane-fits .ensures) (b .plane-fits2 .ensures) (c .judge-filter .ensures _)))

@@ -1,7 +1,0 @@
--- `alf_validate::filters::fixed_valid` meets its contract. Assumes nothing.
-use borrow.Author.Needs.{needs}
-use Rattle.alf_validate.proofs.filters.fixed_valid.Statement.{statement}
-use Rattle.alf_validate.proofs.filters.fixed_valid.Tie as tie
-
-pub fixed-valid-spec : {M : Type 1} → statement M
-fixed-valid-spec = tie.close (tie.spec (λ c κs. search needs) (λ c κs. search needs) (λ c. cc))

@@ -1,0 +1,12 @@
+-- `alf_validate_layout::picture::bit_depth_valid` meets its contract: the code is the definition's expression. Assumes nothing.
+use borrow.Author.Needs.{needs}
+use Rattle.alf_spec.specs.Faults.{bitDepthValid}
+use Rattle.alf_validate_layout.proofs.picture.bit_depth_valid.Statement.{statement}
+use Rattle.alf_validate_layout.proofs.picture.bit_depth_valid.Tie as tie
+
+pub bit-depth-valid-spec : {M : Type 1} → statement M
+unfolding bitDepthValid
+bit-depth-valid-spec =
+    tie.close
+    (tie.spec
+    (λ c. search needs))

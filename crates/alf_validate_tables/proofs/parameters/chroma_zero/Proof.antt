@@ -1,0 +1,29 @@
+-- `alf_validate_tables::parameters::chroma_zero` meets its contract: a CTB's numbers stand at its address. Assumes nothing.
+use borrow.Author.Needs.{needs}
+use Rattle.alf_spec.specs.Faults.{ctbChromaZero}
+use Rattle.alf_validate_tables.specs.Tables.{parametersInput}
+use Rattle.alf_validate_tables.proofs.CtbParameters.{at-address}
+use Rattle.alf_validate_tables.proofs.parameters.chroma_zero.Statement.{statement}
+use Rattle.alf_validate_tables.proofs.parameters.chroma_zero.Tie as tie
+
+pub chroma-zero-spec : {M : Type 1} → statement M
+unfolding ctbChromaZero
+chroma-zero-spec =
+    tie.close
+    (tie.spec
+    (λ c. search needs)
+    (λ c. search needs)
+    (λ c. search needs)
+    (λ c. search needs)
+    (λ c. search needs)
+    (λ c. search needs)
+    (λ c. search needs)
+    (λ c. search needs)
+    (λ c. search needs)
+    (λ c. search needs)
+    (λ c. search needs)
+    (λ c. search needs)
+    (λ c. search needs)
+    (λ c sliceMap sliceParams.
+    let a = c .before .before .before .before .before .before .args in
+    simp (at-address (parametersInput (a .picture) sliceMap sliceParams (a .ctb-params .now)) (a .k))))
