@@ -35,6 +35,9 @@ counted() {
     fi
 }
 
+# crates.txt names for each crate what it uses itself, and no more.
+dependencies() { diff <(grep -v '^#' crates.txt) <(scripts/dependencies.sh); }
+
 # The layout of the Rust sources, without a network or a registry.
 host_layout() { (cd host && cargo fmt --check --quiet); }
 
@@ -49,6 +52,7 @@ bench_agrees() { (cd host && cargo build --quiet --release --offline -p bench) &
 
 single "layout of the sources" rt fmt --check
 single "layout of the host's sources" host_layout
+single "the crates that each crate names" dependencies
 counted "proofs, must-fail edits and programs" rt ci
 single "the static library" scripts/lib.sh
 counted "the C interface from C" scripts/c-tests.sh

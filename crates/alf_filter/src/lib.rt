@@ -3,5 +3,4 @@ mod addresses;
 mod listed;
 mod plane;
 
-pub use alf_ctb::Filter;
 pub use plane::filter_plane;

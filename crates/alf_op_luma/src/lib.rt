@@ -3,7 +3,7 @@ ghost use lib.ListN.{length};
 ghost use Rattle.alf_spec.specs.Input.{luma as lumaOf, layoutOf, lumaInput};
 ghost use Rattle.alf_spec.specs.Answers.{number};
 ghost use Rattle.alf_spec.specs.Runs.{Ran};
-use alf_filter::Filter;
+use alf_ctb::Filter;
 use alf_filter::filter_plane;
 use alf_spec::Answer;
 use alf_spec::Picture;
