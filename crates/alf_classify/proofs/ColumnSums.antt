@@ -5,6 +5,7 @@ use Prim.Native.Nat.{ℕ, _+_, _*_, _≤_, _<_}
 use native.Mathlib.Nat.{add-zero, zero-add}
 use native.Mathlib.Omega.{arith}
 use lib.ListN.{length, getD}
+use Rattle.alf_spec.specs.declared.Sums.{Sums}
 use Rattle.alf_spec.specs.Lists.{sumBelow}
 use Rattle.alf_spec.proofs.Lists.{sum-same}
 use Rattle.alf_lists.specs.Regions.{between}
@@ -44,6 +45,13 @@ module _ (d : List ℕ) (pitch k : ℕ) where
 pub four-columns : (sums : List ℕ) (at : ℕ) → fourColumns sums at ≡ getD sums at 0 + getD sums (at + 2) 0 + getD sums (at + 4) 0 + getD sums (at + 6) 0
 unfolding fourColumns sumBelow
 four-columns sums at = simp (add-zero, zero-add)
+
+-- a block's sums, from that of each direction
+pub four-sums : (v h d0 d1 : List ℕ) (at : ℕ) {sv sh sd0 sd1 : ℕ}
+    → sv ≡ fourColumns v at → sh ≡ fourColumns h at → sd0 ≡ fourColumns d0 at → sd1 ≡ fourColumns d1 at
+    → _≡_ {A = Sums} (record { v = sv; h = sh; d0 = sd0; d1 = sd1 }) (columnSums v h d0 d1 at)
+unfolding columnSums
+four-sums v h d0 d1 at ev eh ed0 ed1 = rw (ev, eh, ed0, ed1)
 
 -- the fourth pair added to the sums of three, of n columns
 pub four-pairs : (d : List ℕ) (pitch from n : ℕ) {xs ys zs : List ℕ} → n ≤ length xs → Paint xs (between 0 n) (columnFrom d pitch 3 from) ys

@@ -1,12 +1,13 @@
 -- `alf_classify::blocks::class_row` meets its contract: the sums of columns in each direction, and the blocks' numbers from them.
 -- Assumes nothing.
-use mathlib.Core.Path.{refl, ap}
-use Prim.Native.Nat.{_+_, _-_, _*_}
+use mathlib.Core.Path.{_≡_, refl, sym, ap}
+use Prim.Native.Nat.{ℕ, _+_, _-_, _*_, _≤_, _<_}
 use native.Mathlib.Omega.{arith}
 use borrow.Author.Needs.{needs}
 use Rattle.alf_spec.specs.declared.Sums.{Sums}
 use Rattle.alf_spec.specs.Classes.{classOfSums}
 use Rattle.alf_spec.specs.Process.{classNumber}
+use Rattle.alf_pieces.specs.Copies.{area}
 use Rattle.alf_lists.proofs.Painted.{paint-of, paint-is, paint-same}
 use Rattle.alf_lists.proofs.Regions.{run-facts}
 use Rattle.alf_classify.proofs.ColumnSums.{sums-of-block}
@@ -33,29 +34,66 @@ returns c =
     ap (λ (z : Sums). classNumber (classOfSums (a .depth) (a .window .factor) z))
     (sums-of-block _ _ _ (4 * a .count + 3) (4 * (k - a .at)) (omega arith) (a .from) (omega arith) v h d0 d1)))
 
+-- of a row of blocks: its columns have room in a list of sums, and since the differences of the last direction stand in their list, so do those of
+-- the other three
+row-fits : (count from reach n : ℕ) → count ≤ 32 → 3 * area + from + (4 * count + 3) + reach ≤ n
+    → (4 * count + 3 ≤ 131) × (from + (4 * count + 3) + reach ≤ n) × (area + from + (4 * count + 3) + reach ≤ n)
+    × (2 * area + from + (4 * count + 3) + reach ≤ n)
+row-fits count from reach n few room = omega arith
+
+-- and the windows of its blocks stand in a list of sums
+in-sums : (count n : ℕ) → count ≤ 32 → n ≡ 131 → 4 * count + 2 < n
+in-sums count n few e = omega arith
+
 pub class-row-spec : {M : Type 1} → statement M
 class-row-spec =
     tie.close
     (tie.spec
     (λ c. search needs)
     (λ c. search needs)
+    (λ c. refl)
+    (λ c κs.
+    let p = c .before .before .before .before .pre in
+    let f = row-fits _ _ _ _ (p .0) (p .8) in
+    (p .2, p .3, p .1, f .0, f .1, p .9 .0))
     (λ c. search needs)
-    (λ c κs. search needs)
-    (λ c. search needs)
-    (λ c. search needs)
-    (λ c κs. search needs)
-    (λ c. search needs)
-    (λ c. search needs)
-    (λ c. search needs)
-    (λ c κs. search needs)
-    (λ c. search needs)
-    (λ c. search needs)
-    (λ c. search needs)
-    (λ c κs. search needs)
+    (λ c. refl)
+    (λ c κs.
+    let p = c .before .before .before .before .before .before .before .pre in
+    let f = row-fits _ _ _ _ (p .0) (p .8) in
+    (p .2, p .3, p .1, f .0, f .2, p .9 .1))
     (λ c. search needs)
     (λ c. search needs)
+    (λ c. refl)
+    (λ c κs.
+    let p = c .before .before .before .before .before .before .before .before .before .before .pre in
+    let f = row-fits _ _ _ _ (p .0) (p .8) in
+    (p .2, p .3, p .1, f .0, f .3, p .9 .2))
     (λ c. search needs)
     (λ c. search needs)
-    (λ c κs. search needs)
+    (λ c. refl)
+    (λ c κs.
+    let p = c .before .before .before .before .before .before .before .before .before .before .before .before .before .pre in
+    let f = row-fits _ _ _ _ (p .0) (p .8) in
+    (p .2, p .3, p .1, f .0, p .8, p .9 .3))
+    (λ c. sym (paint-of (c .before .before .before .before .before .before .before .before .before .before .before .column-sums .ensures) .len))
+    (λ c. sym (paint-of (c .before .before .before .before .before .before .before .before .before .column-sums2 .ensures) .len))
+    (λ c. sym (paint-of (c .before .before .before .before .before .before .before .column-sums3 .ensures) .len))
+    (λ c. sym (paint-of (c .before .before .before .before .before .column-sums4 .ensures) .len))
+    (λ c κs.
+    let fourth = c .before .before .before .before .before .before in
+    let third = fourth .before .before .before in
+    let second = third .before .before .before in
+    let first = second .before .before .before in
+    let p = first .before .before .before .before .before .pre in (
+      in-sums _ _ (p .0) (paint-of (first .column-sums .ensures) .len),
+      in-sums _ _ (p .0) (paint-of (second .column-sums2 .ensures) .len),
+      in-sums _ _ (p .0) (paint-of (third .column-sums3 .ensures) .len),
+      in-sums _ _ (p .0) (paint-of (fourth .column-sums4 .ensures) .len),
+      p .4,
+      p .5,
+      p .6,
+      p .7,
+    ))
     (λ c. search needs)
     returns)

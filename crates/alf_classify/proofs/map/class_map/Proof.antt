@@ -1,5 +1,5 @@
 -- `alf_classify::map::class_map` meets its contract: the CTBs before address k are classified. Assumes nothing.
-use mathlib.Core.Path.{_≡_, refl, sym}
+use mathlib.Core.Path.{_≡_, sym}
 use Prim.Native.Nat.{zero, _-_, _*_, _≤_}
 use native.Mathlib.Nat.{le-antisymm}
 use native.Mathlib.Omega.{arith}
@@ -11,10 +11,10 @@ use Rattle.alf_spec.specs.Process.{classAt, classMap}
 use Rattle.alf_spec.proofs.Accepted.{Accepted}
 use Rattle.alf_math.proofs.Grids.{few-ctbs}
 use Rattle.alf_pieces.specs.Copies.{area}
-use Rattle.alf_pieces.specs.CtbRegions.{ofCtb, beforeCtb}
-use Rattle.alf_lists.proofs.Painted.{Paint, paint-none, paint-call}
-use Rattle.alf_pieces.proofs.CtbRegions.{no-ctb, next-ctb, all-painted}
-use Rattle.alf_classify.proofs.ClassWorks.{whole-blocks, accepted-classes, map-length}
+use Rattle.alf_pieces.specs.CtbRegions.{beforeCtb}
+use Rattle.alf_lists.proofs.Painted.{Paint, paint-none}
+use Rattle.alf_pieces.proofs.CtbRegions.{no-ctb, all-painted}
+use Rattle.alf_classify.proofs.ClassWorks.{whole-blocks, accepted-classes, map-length, next-classified}
 use Rattle.alf_classify.proofs.map.class_map.Statement.{statement}
 use Rattle.alf_classify.proofs.map.class_map.Tie as tie
 
@@ -55,12 +55,14 @@ class-address-requires c κs =
 
 loop-again : tie.Need-loop-again Inv-loop μ-loop
 loop-again c =
-    let inv = c .before .before .before .before .before .before .before .before .before .loop .inv in (
+    let turn = c .before .before .before .before .before .before .before .before .before in
+    let inv = turn .loop .inv in (
       search needs,
       inv .1,
       search needs,
       search needs,
-      paint-call (ofCtb _ _ _) _ (inv .4) (c .before .before .before .before .class-address .ensures) (λ i h t. refl) (λ i h. next-ctb _ _ _ i),
+      let s = turn .before .before .before .before .before .before .before .before .before .before .before .before in
+          next-classified (layout s) (s .args .luma .now) (turn .loop .k) (inv .4) (c .before .before .before .before .class-address .ensures),
     )
 
 returns : tie.Need-returns Inv-loop μ-loop
