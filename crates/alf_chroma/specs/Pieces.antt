@@ -6,12 +6,9 @@ use Prim.Native.Nat.{ℕ, _+_, _-_, _*_, _/_, _%_, _≤_, _<_}
 use lib.IntN.{ℤ, pos}
 use lib.ListN.{length, getD}
 use Rattle.alf_spec.specs.declared.ChromaRows.{ChromaRows}
-use Rattle.alf_spec.specs.declared.Ctb.{Ctb}
 use Rattle.alf_spec.specs.declared.Grid.{Grid}
 use Rattle.alf_spec.specs.declared.Picture.{Picture}
-use Rattle.alf_spec.specs.Input.{Input}
 use Rattle.alf_spec.specs.Geometry.{subWidth, subHeight, lumaPosition, lineRule, bottomDistance}
-use Rattle.alf_spec.specs.Parameters.{chromaAps, chromaAlternative, chromaCoeff, chromaClip}
 use Rattle.alf_spec.specs.Chroma.{chromaRows}
 use Rattle.alf_spec.specs.Faults.{pictureSizeValid, ctbSizeValid, bitDepthValid}
 use Rattle.alf_math.specs.Grids.{GridOf}

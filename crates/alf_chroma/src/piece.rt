@@ -19,6 +19,7 @@ ghost use Rattle.alf_params.specs.Filters.{ChromaFilter};
 ghost use Rattle.alf_chroma.specs.Pieces.{Spread, RowsWork, ChromaWork, copyChromaAt};
 use crate::kernel::chroma_row;
 use crate::rows::rows_at;
+use alf_lists::fill;
 use alf_math::grid::sub_height;
 use alf_math::grid::sub_width;
 use alf_pieces::copies::copy_piece;
@@ -30,7 +31,6 @@ use alf_spec::Picture;
 use alf_spec::Sides;
 use alf_taps::CLIPS;
 use alf_taps::COLUMNS;
-use alf_lists::fill;
 
 // The taps of a chroma filter: so many coefficients, and then as many clips.
 const TAPS: usize = 6;

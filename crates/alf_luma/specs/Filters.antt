@@ -6,10 +6,7 @@ use Prim.Native.Nat.{ℕ, _+_, _-_, _*_, _/_, _%_, _<_}
 use lib.IntN.{ℤ, pos}
 use lib.Dec.{ltb}
 use lib.ListN.{length, getD}
-use Rattle.alf_spec.specs.declared.Ctb.{Ctb}
-use Rattle.alf_spec.specs.Input.{Input}
-use Rattle.alf_spec.specs.Luma.{lumaF, lumaC, tapOrder}
-use Rattle.alf_math.specs.Integers.{CoeffRange, ClipRange}
+use Rattle.alf_spec.specs.Luma.{tapOrder}
 
 -- ---- the tap order as a table: 24 places for each transpose
 

@@ -8,9 +8,9 @@ ghost use Rattle.alf_lists.specs.Filled.{Filled};
 ghost use Rattle.alf_taps.specs.Spread.{clipPlace};
 ghost use Rattle.alf_params.specs.Filters.{FilterNumbers};
 ghost use Rattle.alf_luma.specs.Filters.{tapPlace, Places, numberFrom, classFrom, spreadFrom, ClassNumbers};
+use alf_lists::fill;
 use alf_math::tables::tap_order;
 use alf_taps::COLUMNS;
-use alf_lists::fill;
 
 // A filter's numbers, and how many places the tap order has for each transpose: 12 coefficients and 12 clips.
 const NUMBERS: usize = 24;
