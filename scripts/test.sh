@@ -7,18 +7,22 @@ failed=0
 log=$(mktemp)
 trap 'rm -f "$log"' EXIT
 
+# How long a part took, since the gate has a budget (docs/testing.md).
+took() { echo "== $1: $(($2 / 60)) min $(($2 % 60)) s"; }
+
 # A part that is one test: it passes where the command does.
 single() {
-    local name=$1
+    local name=$1 began=$SECONDS
     shift
     echo "== $name"
     if "$@"; then passed=$((passed + 1)); else failed=$((failed + 1)); echo "FAILED: $name"; fi
+    took "$name" $((SECONDS - began))
 }
 
 # A part that counts for itself: the last line of the command's output is 'N passed, M failed'. It is shown but for that line, since the
 # sum is printed at the end. A part with no such line, or that ends with another status than its count says, has failed.
 counted() {
-    local name=$1 status last
+    local name=$1 status last began=$SECONDS
     shift
     echo "== $name"
     "$@" 2>&1 | tee "$log" | grep --line-buffered -vE '^[0-9]+ passed, [0-9]+ failed$'
@@ -33,6 +37,7 @@ counted() {
         echo "FAILED: $name gave no count (exit status $status)"
         failed=$((failed + 1))
     fi
+    took "$name" $((SECONDS - began))
 }
 
 # crates.txt names for each crate what it uses itself, and no more.
@@ -61,5 +66,6 @@ single "arbitrary arguments, short" scripts/fuzz.sh 200000
 single "the demo" demo
 single "the library beside plain C" bench_agrees
 
+took "all parts" $SECONDS
 echo "$passed passed, $failed failed"
 [[ $failed -eq 0 && $passed -gt 0 ]]

@@ -1,4 +1,4 @@
--- What the functions from a piece to the whole map are given, and what a piece's copy says of its blocks. Assumes nothing.
+-- What the functions of a piece are given, and what its copy says of its blocks. Assumes nothing.
 use mathlib.Core.Path.{_≡_}
 use mathlib.Core.Bool.{true}
 use mathlib.Core.List.{List, []}
@@ -25,13 +25,6 @@ pub record Rooms (p : Picture) (g : Grid) (copy differences : ℕ) : Type 0 wher
   pub depth : bitDepthValid p ≡ true
   pub copyRoom : area ≤ copy
   pub differenceRoom : 4 * area ≤ differences
-
--- and the picture's map, and its luma samples
-pub record ClassWork (p : Picture) (g : Grid) (luma : List ℕ) (copy differences map : ℕ) : Type 0 where
-  pub rooms : Rooms p g copy differences
-  pub mapLength : map ≡ p .width / 4 * (p .height / 4)
-  pub lumaLength : length luma ≡ p .width * p .height
-  pub samples : (k : ℕ) → getD luma k 0 < 4096
 
 -- a map of so many entries, whose rows have mapColumns blocks, has room for the blocks of a piece, the first of them at column `left` and row `top`.
 -- The bounds of 1024 blocks, which every picture keeps, let places be added and multiplied.

@@ -1,11 +1,8 @@
-// The class map: the class and the transpose of each 4 by 4 luma block. A CTB is classified piece by piece: the piece is copied with its margin,
-// the second differences of the copy are found once for each sample, and each block sums those of its window. For a filter that
-// goes by pieces too, the classes of one piece are public.
+// The classes of a piece: the class and the transpose of each of its 4 by 4 luma blocks. From the piece's copy with its margin, second differences are
+// found once for each sample, and each block sums those of its window. The class map and the luma filter both go by pieces, and stand on this.
 mod blocks;
 mod differences;
-mod map;
 mod sums;
 
 pub use blocks::piece_classes;
 pub use differences::AREA;
-pub use map::class_map;

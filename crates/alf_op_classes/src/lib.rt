@@ -3,7 +3,7 @@ ghost use lib.ListN.{length};
 ghost use Rattle.alf_spec.specs.Input.{classes as classesOf, layoutOf, classesInput};
 ghost use Rattle.alf_spec.specs.Answers.{number};
 ghost use Rattle.alf_spec.specs.Runs.{Ran};
-use alf_classify::class_map;
+use alf_class_map::class_map;
 use alf_spec::Answer;
 use alf_spec::Picture;
 use alf_validate::judge_classes;

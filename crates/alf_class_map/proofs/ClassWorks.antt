@@ -22,8 +22,9 @@ use Rattle.alf_pieces.specs.Copies.{area}
 use Rattle.alf_pieces.specs.CtbRegions.{ofCtb, beforeCtb}
 use Rattle.alf_lists.proofs.Painted.{Paint, paint-call}
 use Rattle.alf_pieces.proofs.CtbRegions.{next-ctb}
-use Rattle.alf_classify.specs.Work.{ClassWork, MapRoom}
+use Rattle.alf_classify.specs.Work.{MapRoom}
+use Rattle.alf_class_map.specs.Work.{ClassWork}
 use Rattle.alf_classify.proofs.PieceRows.{blocks}
 
 -- lists of the same lengths
 pub work-same : {p : Picture} {g : Grid} {luma : List ℕ} {copy copy′ differences differences′ map map′ : ℕ} → ClassWork p g luma copy differences map

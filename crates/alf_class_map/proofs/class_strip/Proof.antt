@@ -1,4 +1,4 @@
--- `alf_classify::map::class_strip` meets its contract: the pieces of columns before x are classified. Assumes nothing.
+-- `alf_class_map::class_strip` meets its contract: the pieces of columns before x are classified. Assumes nothing.
 use mathlib.Core.Path.{_≡_, refl, ap, _∙_}
 use mathlib.Core.Bool.{false}
 use mathlib.Core.Logic.{inl}
@@ -21,9 +21,9 @@ use Rattle.alf_lists.proofs.Regions.{rect-none}
 use Rattle.alf_pieces.proofs.CtbPieces.{column-piece}
 use Rattle.alf_lists.proofs.PaintedRects.{paint-beside}
 use Rattle.alf_pieces.proofs.PieceWalk.{Walk, walk-start, walk-next, walk-done, Turn, turn, turn-less, block-piece, columns-regular}
-use Rattle.alf_classify.proofs.ClassWorks.{work-same}
-use Rattle.alf_classify.proofs.map.class_strip.Statement.{statement}
-use Rattle.alf_classify.proofs.map.class_strip.Tie as tie
+use Rattle.alf_class_map.proofs.ClassWorks.{work-same}
+use Rattle.alf_class_map.proofs.class_strip.Statement.{statement}
+use Rattle.alf_class_map.proofs.class_strip.Tie as tie
 
 abbrev Inv-loop : tie.InvT-loop
 Inv-loop picture grid virtual-columns ctb sides rows luma copy₀ differences₀ map₀ left right x₀ copy differences map x =

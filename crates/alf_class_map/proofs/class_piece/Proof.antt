@@ -1,4 +1,4 @@
--- `alf_classify::map::class_piece` meets its contract: the copy holds the windows of the piece's blocks. Assumes nothing.
+-- `alf_class_map::class_piece` meets its contract: the copy holds the windows of the piece's blocks. Assumes nothing.
 use mathlib.Core.Path.{refl}
 use Prim.Native.Nat.{_≤_}
 use borrow.Author.Needs.{needs}
@@ -7,11 +7,11 @@ use Rattle.alf_pieces.specs.Copies.{copyLength}
 use Rattle.alf_lists.proofs.Painted.{paint-is, paint-of, paint-same}
 use Rattle.alf_pieces.proofs.CopySamples.{copy-small}
 use Rattle.alf_pieces.proofs.CopyRooms.{copy-fits, rows-fit}
 use Rattle.alf_classify.proofs.PieceRows.{blocks}
 use Rattle.alf_classify.proofs.PieceClasses.{class-same}
-use Rattle.alf_classify.proofs.ClassWorks.{own-map}
-use Rattle.alf_classify.proofs.map.class_piece.Statement.{statement}
-use Rattle.alf_classify.proofs.map.class_piece.Tie as tie
+use Rattle.alf_class_map.proofs.ClassWorks.{own-map}
+use Rattle.alf_class_map.proofs.class_piece.Statement.{statement}
+use Rattle.alf_class_map.proofs.class_piece.Tie as tie
 
 copy-piece-requires : tie.Need-copy-piece-requires
 copy-piece-requires c κs =
