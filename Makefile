@@ -41,10 +41,9 @@ fuzz: lib
 
 examples:
 	@echo "Proving the examples (the first time takes some minutes) ..."
-	@log=$$(mktemp); rt check worked_examples judge_examples class_examples filter_examples > $$log 2>&1 || { cat $$log; rm -f $$log; exit 1; }; rm -f $$log
+	@log=$$(mktemp); rt check worked_examples judge_examples filter_examples > $$log 2>&1 || { cat $$log; rm -f $$log; exit 1; }; rm -f $$log
 	@./target/bin/worked_examples
 	@./target/bin/judge_examples
-	@./target/bin/class_examples
 	@./target/bin/filter_examples
 
 check:

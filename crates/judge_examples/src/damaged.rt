@@ -1,7 +1,7 @@
 // A small input of the luma filter in which the causes from one number to another are broken.
-use crate::print;
-use crate::print_number;
 use alf::number;
+use alf_print::print;
+use alf_print::print_number;
 use alf_spec::Answer;
 use alf_spec::Picture;
 use alf_validate::judge_isolation;

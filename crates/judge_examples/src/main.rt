@@ -5,18 +5,11 @@ mod damaged;
 use alf::fault_number;
 use alf::isolated;
 use alf::isolation_number;
+use alf_print::print;
+use alf_print::print_number;
 use alf_spec::Fault;
 use alf_spec::Isolation;
 use alf_spec::Picture;
-use libc::STDOUT_FILENO;
-
-pub fn print(text: &[u8]) {
-    io::write_all(STDOUT_FILENO, text);
-}
-
-pub fn print_number(n: u32) {
-    io::print_decimal(STDOUT_FILENO, n as u64);
-}
 
 // What the isolation test answers.
 fn show(answer: Isolation) {

@@ -9,32 +9,13 @@ use alf_math::direction::class_of_sums;
 use alf_math::rounding::filtered;
 use alf_math::rounding::rounded;
 use alf_math::taps::tap;
+use alf_print::print;
+use alf_print::print_integer;
+use alf_print::print_number;
 use alf_spec::Sums;
-use libc::STDOUT_FILENO;
-
-pub fn print(text: &[u8]) {
-    io::write_all(STDOUT_FILENO, text);
-}
-
-pub fn print_number(n: u32) {
-    io::print_decimal(STDOUT_FILENO, n as u64);
-}
-
-fn print_integer(n: i32)
-    requires { ⌜ natAbs n ≤ 2 ^ 30 ⌝ }
-{
-    if n < 0 {
-        print(b"-");
-        print_number((-n) as u32);
-    } else {
-        print_number(n as u32);
-    }
-}
 
 // A number, and what comes of it.
-fn show(n: i32, r: i32)
-    requires { ⌜ (natAbs n ≤ 2 ^ 30) × (natAbs r ≤ 2 ^ 30) ⌝ }
-{
+fn show(n: i32, r: i32) {
     print(b"  ");
     print_integer(n);
     print(b" -> ");

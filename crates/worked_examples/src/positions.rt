@@ -1,7 +1,5 @@
 // P9 to P11: clip positions, a padded position and the line rule, with CTBs of 32.
 ghost use Prim.Native.Nat.{_≤_};
-use crate::print;
-use crate::print_number;
 use alf_boundary::clips::Clip;
 use alf_boundary::clips::clip_after;
 use alf_boundary::clips::clip_before;
@@ -14,6 +12,8 @@ use alf_boundary::padding::row_corners;
 use alf_boundary::padding::row_span;
 use alf_boundary::sides::sides_of;
 use alf_math::grid::grid;
+use alf_print::print;
+use alf_print::print_number;
 use alf_spec::Ctb;
 use alf_spec::Picture;
 
