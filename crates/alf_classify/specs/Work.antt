@@ -2,8 +2,7 @@
 use mathlib.Core.Path.{_≡_}
 use mathlib.Core.Bool.{true}
 use mathlib.Core.List.{List, []}
-use Prim.Native.Nat.{ℕ, _+_, _-_, _*_, _/_, _%_, _≤_, _<_}
-use lib.ListN.{length, getD}
+use Prim.Native.Nat.{ℕ, _+_, _-_, _*_, _/_, _%_, _≤_}
 use Rattle.alf_spec.specs.declared.Picture.{Picture}
 use Rattle.alf_spec.specs.declared.Grid.{Grid}
 use Rattle.alf_spec.specs.declared.WindowRows.{WindowRows}

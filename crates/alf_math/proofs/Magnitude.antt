@@ -82,15 +82,6 @@ pub ruleset words = (toZ-ofZ, back-i16, back-u16)
 pub returned : (w : Width) {z v : ℤ} → mag z < 2 ^ hbits w → z ≡ v → toZ w (ofZ w z) ≡ v
 returned w h e = toZ-ofZ (record { sfits = h }) ∙ e
 
--- the sign that a test against 0 tells, before a cast to an unsigned type
-pub not-negative : (v : ℤ) → ltZ v (pos 0) ≡ false → T (nonNeg v)
-not-negative (pos n) p = tt
-not-negative (negsuc n) p = absurd (true≢false p)
-
-pub opposite-not-negative : (v : ℤ) → ltZ v (pos 0) ≡ true → T (nonNeg (pos 0 -ℤ v))
-opposite-not-negative (pos n) p = absurd (omega (arith, ltb-true n 0 p))
-opposite-not-negative (negsuc n) p = tt
-
 -- ---- clips
 
 -- what a clip gives is an end, or the number itself where it lies between
