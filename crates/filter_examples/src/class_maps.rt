@@ -1,10 +1,12 @@
 // The class map of a picture with four kinds of texture: without boundaries, with a virtual column, and one that is rejected.
-use crate::operations::show_classes;
+use alf_spec::Picture;
 use example_pictures::textures::draw_textures;
 use example_pictures::textures::textured_picture;
+use example_runs::show_classes;
 
 // One tile, slice and subpicture, of two by two CTBs: the map with no virtual column, with the first and with the second, where it is left as it was.
 fn show_maps(
+    picture: Picture,
     first: &[u16],
     second: &[u16],
     none: &[u16],
@@ -16,7 +18,7 @@ fn show_maps(
 ) {
     show_classes(
         b"class:transpose of each 4 by 4 block: flat, upright bars, slanted bars, level bars",
-        textured_picture(),
+        picture,
         none,
         none,
         tiles,
@@ -29,7 +31,7 @@ fn show_maps(
     );
     show_classes(
         b"the same with a virtual column at 24",
-        textured_picture(),
+        picture,
         first,
         none,
         tiles,
@@ -42,7 +44,7 @@ fn show_maps(
     );
     show_classes(
         b"a virtual column at 28 is rejected, and the map stays as it was",
-        textured_picture(),
+        picture,
         second,
         none,
         tiles,
@@ -60,6 +62,7 @@ pub fn show() {
     let mut map = [255u8; 192];
     draw_textures(&mut luma);
     show_maps(
+        textured_picture(),
         &[24],
         &[28],
         &[],

@@ -1,7 +1,7 @@
 // Runs every operation on a built-in picture and prints the planes before and after, then an input that is rejected; then the class maps of another
 // picture.
 mod class_maps;
-mod operations;
+mod filtered;
 
 use example_pictures::layout::SLICE_MAP;
 use example_pictures::layout::SUBPIC_ACROSS;
@@ -11,7 +11,7 @@ use example_pictures::layout::VIRTUAL_COLUMNS;
 use example_pictures::layout::VIRTUAL_ROWS;
 
 fn main() {
-    operations::show(
+    filtered::show(
         &VIRTUAL_COLUMNS,
         &VIRTUAL_ROWS,
         &TILES,

@@ -1,5 +1,5 @@
-// Every operation on the picture, and what it leaves. The layout's tables and the filters' are handed on as slices: an array that is lent anew to each call
-// costs the check more.
+// Every operation on a picture, and what it leaves, for the example programs. The layout's tables and the filters' are handed on as slices: an array that is
+// lent anew to each call costs the check more.
 use alf::isolation_number;
 use alf::number;
 use alf_print::print;
@@ -9,12 +9,8 @@ use alf_print::print_map;
 use alf_print::print_plane;
 use alf_spec::Picture;
 use example_pictures::drawing::draw_chroma;
-use example_pictures::drawing::draw_luma;
 use example_pictures::layout::picture;
-use example_pictures::tables::CTB_LIST;
 use example_pictures::tables::CTB_PARAMS;
-use example_pictures::tables::SLICE_PARAMS;
-use example_pictures::tables::fill_bank;
 use example_pictures::tables::fill_fixed_filters;
 use example_pictures::tables::fill_fixed_map;
 
@@ -381,7 +377,7 @@ fn show_filters(
 }
 
 // All operations, in turn.
-fn show_picture(
+pub fn show_picture(
     virtual_columns: &[u16],
     virtual_rows: &[u16],
     tiles: &[u8],
@@ -422,36 +418,5 @@ fn show_picture(
         ctb_params,
         ctb_list,
         luma,
-    );
-}
-
-// The picture with this layout: its luma and the filter bank are made here, and lent once.
-pub fn show(
-    virtual_columns: &[u16],
-    virtual_rows: &[u16],
-    tiles: &[u8],
-    slice_map: &[u8],
-    subpic_map: &[u8],
-    subpic_across: &[u8],
-) {
-    let mut bank = [0i16; 6016];
-    let mut luma = [0u16; 1600];
-    let mut map = [255u8; 100];
-    fill_bank(&mut bank);
-    draw_luma(&mut luma);
-    print(b"40 by 40, four CTBs: two slices, a virtual column at 16, the second CTB not listed\n");
-    show_picture(
-        virtual_columns,
-        virtual_rows,
-        tiles,
-        slice_map,
-        subpic_map,
-        subpic_across,
-        &SLICE_PARAMS,
-        &bank,
-        &CTB_PARAMS,
-        &CTB_LIST,
-        &luma,
-        &mut map,
     );
 }
