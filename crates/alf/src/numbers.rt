@@ -1,11 +1,13 @@
-// The number of paper 01's table for each answer.
+// The number of paper 01's table for each answer, and of each cause of paper 02's first card.
 ghost use mathlib.Core.Path.{_≡_};
-ghost use Rattle.alf_spec.specs.Answers.{faultNumber, number as numberOf, isolationNumber as isolationNumberOf};
+ghost use Rattle.alf_spec.specs.Answers.{faultNumber, number as numberOf, isolationNumber as isolationNumberOf, causesNumber, causeNumber};
 use alf_spec::Answer;
+use alf_spec::ClipCause;
+use alf_spec::ClipCauses;
 use alf_spec::Fault;
 use alf_spec::Isolation;
 
-// 1 to 14
+// 1 to 15
 pub fn fault_number(fault: Fault) -> u8
     ensures { λ r. ⌜ r ≡ faultNumber fault ⌝ }
 {
@@ -24,6 +26,7 @@ pub fn fault_number(fault: Fault) -> u8
         Fault::Sample => 12,
         Fault::Address => 13,
         Fault::Region => 14,
+        Fault::Position => 15,
     }
 }
 
@@ -45,5 +48,29 @@ pub fn isolation_number(answer: Isolation) -> u8
         Isolation::Isolated => 0,
         Isolation::NotIsolated => 0,
         Isolation::Rejected(fault) => fault_number(fault),
+    }
+}
+
+// Of the causes at a luma position: 0 where they are named.
+pub fn causes_number(answer: ClipCauses) -> u8
+    ensures { λ r. ⌜ r ≡ causesNumber answer ⌝ }
+{
+    match answer {
+        ClipCauses::Named(_) => 0,
+        ClipCauses::Rejected(fault) => fault_number(fault),
+    }
+}
+
+// 0 to 5
+pub fn cause_number(cause: ClipCause) -> u8
+    ensures { λ r. ⌜ r ≡ causeNumber cause ⌝ }
+{
+    match cause {
+        ClipCause::Open => 0,
+        ClipCause::LineBufferBoundary => 1,
+        ClipCause::VirtualBoundary => 2,
+        ClipCause::Tile => 3,
+        ClipCause::Slice => 4,
+        ClipCause::Subpicture => 5,
     }
 }

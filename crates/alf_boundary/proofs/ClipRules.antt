@@ -11,6 +11,7 @@ use lib.Dec.{leb}
 use lib.ListN.{length, getD, drop}
 use lib.Seq.{drop-cons, drop-length}
 use borrow.Author.Tests.{leb-true, le-leb}
+use Rattle.alf_spec.specs.declared.ClipCause.the-variants.{VirtualBoundary}
 use Rattle.alf_spec.specs.Boundary.{find}
 use Rattle.alf_spec.proofs.Tests.{same-test}
 
@@ -32,7 +33,8 @@ pub sought-none : (test : ℕ → Bool) (xs : List ℕ) → Sought test xs 0
 sought-none test xs = record { within = omega arith; rest = refl }
 
 module _ {test : ℕ → Bool} {xs : List ℕ} {i : ℕ} (s : Sought test xs i) where
-  pub sought-here : i < length xs → {r : Bool} → r ≡ test (getD xs i 0) → r ≡ true → some (getD xs i 0) ≡ find test xs
+  pub sought-here : i < length xs → {r : Bool} → r ≡ test (getD xs i 0) → r ≡ true
+      → some (record { cause = VirtualBoundary; position = getD xs i 0 }) ≡ find test xs
   unfolding find
   sought-here h e q = sym (s .rest ∙ rw (drop-cons xs i 0, ← e, q))
 

@@ -3,5 +3,4 @@ pub mod ClipRules
 pub mod CtbAddresses
 pub mod CtbSides
 pub mod Lists
-pub mod PaddedPositions
 pub mod Tables

@@ -1,16 +1,21 @@
 -- Clip positions as code has them, and the axis that they lie along. Assumes nothing.
 use mathlib.Core.Bool.{Bool, true, false}
 use mathlib.Core.List.{List}
-use mathlib.Core.Option.{Option, some, none}
+use mathlib.Core.Option.{Option, some, none, Option·map}
 use Prim.Native.Nat.{ℕ, _≤_}
+use Rattle.alf_spec.specs.declared.Clip.{Clip}
 use Rattle.alf_spec.specs.Geometry.{Side, before, after, Axis}
-use Rattle.alf_boundary.specs.declared.clips.Clip.{Clip}
-use Rattle.alf_boundary.specs.declared.clips.Clip.the-variants.{At, Nowhere}
+use Rattle.alf_boundary.specs.declared.clips.Edge.{Edge}
+use Rattle.alf_boundary.specs.declared.clips.Edge.the-variants.{At, Open}
 
--- a clip position, where there is one
-abbrev pub clipOf : Clip → Option ℕ
-clipOf (At e) = some e
-clipOf Nowhere = none
+-- the clip position and its cause, where there is one
+abbrev pub clipOf : Edge → Option Clip
+clipOf (At c) = some c
+clipOf Open = none
+
+-- the position alone
+abbrev pub positionOf : Edge → Option ℕ
+positionOf e = Option·map (λ c. c .position) (clipOf e)
 
 -- the side that a flag names
 abbrev pub sideOf : Bool → Side

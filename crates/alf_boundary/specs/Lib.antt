@@ -1,5 +1,4 @@
 -- What the contracts of this crate say beside the definitions of `alf_spec`.
 pub mod Clips
 pub mod Memberships
-pub mod Spans
 pub mod Tables

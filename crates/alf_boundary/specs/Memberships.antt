@@ -1,9 +1,11 @@
 -- The tile, slice and subpicture of a CTB, and what decides at its sides, as code has them. Assumes nothing.
-use mathlib.Core.Bool.{Bool, not, _&&_, _||_}
+use mathlib.Core.Bool.{Bool, not, _&&_, cond}
 use mathlib.Core.List.{List}
 use Prim.Native.Nat.{ℕ, _+_, _*_, _<_}
 use lib.Dec.{eqb}
 use lib.ListN.{length, getD}
+use Rattle.alf_spec.specs.declared.ClipCause.{ClipCause}
+use Rattle.alf_spec.specs.declared.ClipCause.the-variants.{Open, Tile, Slice, Subpicture}
 use Rattle.alf_spec.specs.declared.Ctb.{Ctb}
 use Rattle.alf_boundary.specs.declared.sides.Membership.{Membership}
 use Rattle.alf_boundary.specs.declared.sides.Origin.{Origin}
@@ -32,8 +34,9 @@ module _ (columns : ℕ) (tileColumns tileRows sliceMap subpicMap subpicAcross :
 abbrev pub sliceStepDisabled : Origin → ℕ → Bool
 sliceStepDisabled o slice = not (eqb (o .own .slice) slice) && not (o .«across_slices»)
 
--- the step into a CTB of this membership is disabled
-abbrev pub stepDisabled : Origin → Membership → Bool
-stepDisabled o n =
-    (not (eqb (o .own .«tile_column») (n .«tile_column») && eqb (o .own .«tile_row») (n .«tile_row»)) && not (o .«across_tiles»))
-    || (sliceStepDisabled o (n .slice) || (not (eqb (o .own .subpic) (n .subpic)) && not (o .own .«across_subpic»)))
+-- what disables the step into a CTB of this membership
+abbrev pub causeInto : Origin → Membership → ClipCause
+causeInto o n =
+    cond (not (eqb (o .own .«tile_column») (n .«tile_column») && eqb (o .own .«tile_row») (n .«tile_row»)) && not (o .«across_tiles»)) Tile
+    (cond (sliceStepDisabled o (n .slice)) Slice
+    (cond (not (eqb (o .own .subpic) (n .subpic)) && not (o .own .«across_subpic»)) Subpicture Open))

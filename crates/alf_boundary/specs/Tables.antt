@@ -11,7 +11,7 @@ use Rattle.alf_spec.specs.declared.Sides.{Sides}
 use Rattle.alf_spec.specs.Lists.{every}
 use Rattle.alf_spec.specs.Input.{Layout}
 use Rattle.alf_spec.specs.Geometry.{before, after}
-use Rattle.alf_spec.specs.Boundary.{columnDisabled, rowDisabled, cornerDisabled}
+use Rattle.alf_spec.specs.Boundary.{columnSide, rowSide, cornerDisabled}
 
 -- the tables have the grid's lengths, and each subpicture number has a switch
 pub record TablesOf (g : Grid) (tileColumns tileRows sliceMap subpicMap subpicAcross : List ℕ) : Type 0 where
@@ -24,9 +24,9 @@ pub record TablesOf (g : Grid) (tileColumns tileRows sliceMap subpicMap subpicAc
 
 -- the sides and corners of the CTB c
 pub record SidesOf (l : Layout) (c : Ctb) (s : Sides) : Type 0 where
-  pub left : s .left ≡ columnDisabled l c before
-  pub right : s .right ≡ columnDisabled l c after
-  pub top : s .top ≡ rowDisabled l c before
-  pub bottom : s .bottom ≡ rowDisabled l c after
+  pub left : s .left ≡ columnSide l c before
+  pub right : s .right ≡ columnSide l c after
+  pub top : s .top ≡ rowSide l c before
+  pub bottom : s .bottom ≡ rowSide l c after
   pub upperLeft : s .«upper_left» ≡ cornerDisabled l c before
   pub lowerRight : s .«lower_right» ≡ cornerDisabled l c after

@@ -1,32 +1,54 @@
-// The clip positions of a position along an axis of the picture: by the line-buffer boundary, by a virtual boundary, by the side of its CTB.
+// The clip positions of a position along an axis of the picture, and their causes: the line-buffer boundary, a virtual boundary, or what closes the
+// side of its CTB.
 ghost use mathlib.Core.Path.{_≡_};
 ghost use mathlib.Core.Bool.{Bool};
 ghost use mathlib.Core.List.{List};
 ghost use Prim.Native.Nat.{ℕ, _+_, _-_, _*_, _/_, _%_, _≤_, _<_};
+ghost use Rattle.alf_spec.specs.declared.ClipCause.{ClipCause};
 ghost use Rattle.alf_spec.specs.Geometry.{Side, before, after, Axis, lineRule};
-ghost use Rattle.alf_spec.specs.Boundary.{only, _orElse_, near, lineClip, virtualClip, sideClip, clipPosition};
+ghost use Rattle.alf_spec.specs.Boundary.{only, _orElse_, near, lineClip, virtualClip, sideClip, clip, causeOf};
 ghost use Rattle.alf_boundary.specs.Clips.{clipOf, sideOf, axisOf, Bounded};
+use crate::sides::is_closed;
+use alf_spec::Clip;
+use alf_spec::ClipCause;
 
-// A clip position, where there is one.
-pub enum Clip {
-    At(u32),
-    Nowhere,
+// What the rules find on one side of a position: a clip position with its cause, or none.
+pub enum Edge {
+    At(Clip),
+    Open,
 }
 
-// The position, where the test passes.
-fn only_if(test: bool, at: u32) -> Clip
-    ensures { λ r. ⌜ clipOf r ≡ only test at ⌝ }
+// The clip position with its cause, where the test passes.
+fn only_if(test: bool, cause: ClipCause, at: u32) -> Edge
+    ensures { λ r. ⌜ clipOf r ≡ only test cause at ⌝ }
 {
-    if test { Clip::At(at) } else { Clip::Nowhere }
+    if test {
+        Edge::At(Clip {
+            cause: cause,
+            position: at,
+        })
+    } else {
+        Edge::Open
+    }
 }
 
-// The first of two clip positions that there is.
-fn or_else(first: Clip, second: Clip) -> Clip
+// The first of two that is a clip position.
+fn or_else(first: Edge, second: Edge) -> Edge
     ensures { λ r. ⌜ clipOf r ≡ (clipOf first orElse clipOf second) ⌝ }
 {
     match first {
-        Clip::At(e) => Clip::At(e),
-        Clip::Nowhere => second,
+        Edge::At(clip) => Edge::At(clip),
+        Edge::Open => second,
+    }
+}
+
+// The cause.
+pub fn cause_of(edge: Edge) -> ClipCause
+    ensures { λ r. ⌜ r ≡ causeOf (clipOf edge) ⌝ }
+{
+    match edge {
+        Edge::At(clip) => clip.cause,
+        Edge::Open => ClipCause::Open,
     }
 }
 
@@ -43,7 +65,7 @@ fn is_near(after: bool, x: u32, boundary: u32) -> bool
 }
 
 // The first virtual boundary that is near x on that side.
-pub fn virtual_clip(after: bool, boundaries: &[u16], x: u32) -> Clip
+pub fn virtual_clip(after: bool, boundaries: &[u16], x: u32) -> Edge
     requires { ⌜ x ≤ 65535 ⌝ }
     ensures { λ r. ⌜ ((size ctb : ℕ) (line : Bool) (ratio : ℕ)
         → clipOf r ≡ virtualClip (axisOf size ctb (now (boundaries .entry)) line ratio) x (sideOf after)) ⌝ }
@@ -52,11 +74,14 @@ pub fn virtual_clip(after: bool, boundaries: &[u16], x: u32) -> Clip
     while i < boundaries.len() {
         let boundary = boundaries[i] as u32;
         if is_near(after, x, boundary) {
-            return Clip::At(boundary);
+            return Edge::At(Clip {
+                cause: ClipCause::VirtualBoundary,
+                position: boundary,
+            });
         }
         i += 1;
     }
-    Clip::Nowhere
+    Edge::Open
 }
 
 // Where the CTB of x begins.
@@ -76,60 +101,73 @@ pub fn line_rule(size: u32, ctb: u32, y: u32) -> bool
 }
 
 // The line-buffer boundary, 4 rows above the CTB's bottom, where x is at or below it.
-fn line_clip_before(ctb: u32, line: bool, x: u32) -> Clip
+fn line_clip_before(ctb: u32, line: bool, x: u32) -> Edge
     requires { ⌜ Bounded ctb x ⌝ }
     ensures { λ r. ⌜ ((size : ℕ) (boundaries : List ℕ) (ratio : ℕ) → clipOf r ≡ lineClip (axisOf size ctb boundaries line ratio) x before) ⌝ }
 {
-    only_if(line & (ctb - 4 <= x % ctb), ctb_start(ctb, x) + (ctb - 4))
+    let at = ctb_start(ctb, x) + (ctb - 4);
+    only_if(
+        line & (ctb - 4 <= x % ctb),
+        ClipCause::LineBufferBoundary,
+        at,
+    )
 }
 
 // The same where x is 1 to 4 rows above it.
-fn line_clip_after(ctb: u32, line: bool, x: u32) -> Clip
+fn line_clip_after(ctb: u32, line: bool, x: u32) -> Edge
     requires { ⌜ Bounded ctb x ⌝ }
     ensures { λ r. ⌜ ((size : ℕ) (boundaries : List ℕ) (ratio : ℕ) → clipOf r ≡ lineClip (axisOf size ctb boundaries line ratio) x after) ⌝ }
 {
     let at = ctb_start(ctb, x) + (ctb - 4);
-    only_if(line & ((x < at) & (at <= x + 4)), at)
+    only_if(
+        line & ((x < at) & (at <= x + 4)),
+        ClipCause::LineBufferBoundary,
+        at,
+    )
 }
 
 // The side of the CTB left of x or above it, where x is at most 2 from it and filtering across it is disabled.
-fn side_clip_before(ctb: u32, disabled: bool, x: u32) -> Clip
+fn side_clip_before(ctb: u32, side: ClipCause, x: u32) -> Edge
     requires { ⌜ Bounded ctb x ⌝ }
-    ensures { λ r. ⌜ ((size : ℕ) (boundaries : List ℕ) (line : Bool) (ratio : ℕ) (off : Side → Bool) → off before ≡ disabled
-        → clipOf r ≡ sideClip (axisOf size ctb boundaries line ratio) x off before) ⌝ }
+    ensures { λ r. ⌜ ((size : ℕ) (boundaries : List ℕ) (line : Bool) (ratio : ℕ) (sides : Side → ClipCause) → sides before ≡ side
+        → clipOf r ≡ sideClip (axisOf size ctb boundaries line ratio) x sides before) ⌝ }
 {
-    only_if((x % ctb < 3) & disabled, ctb_start(ctb, x))
+    only_if((x % ctb < 3) & is_closed(side), side, ctb_start(ctb, x))
 }
 
 // The side right of x or below it, where x is at most 4 from it and filtering across it is disabled.
-fn side_clip_after(ctb: u32, disabled: bool, x: u32) -> Clip
+fn side_clip_after(ctb: u32, side: ClipCause, x: u32) -> Edge
     requires { ⌜ Bounded ctb x ⌝ }
-    ensures { λ r. ⌜ ((size : ℕ) (boundaries : List ℕ) (line : Bool) (ratio : ℕ) (off : Side → Bool) → off after ≡ disabled
-        → clipOf r ≡ sideClip (axisOf size ctb boundaries line ratio) x off after) ⌝ }
+    ensures { λ r. ⌜ ((size : ℕ) (boundaries : List ℕ) (line : Bool) (ratio : ℕ) (sides : Side → ClipCause) → sides after ≡ side
+        → clipOf r ≡ sideClip (axisOf size ctb boundaries line ratio) x sides after) ⌝ }
 {
-    only_if((ctb - x % ctb < 5) & disabled, ctb_start(ctb, x) + ctb)
+    only_if(
+        (ctb - x % ctb < 5) & is_closed(side),
+        side,
+        ctb_start(ctb, x) + ctb,
+    )
 }
 
-// The clip position left of x or above it: by the line-buffer boundary, a virtual boundary, or the CTB's side.
-pub fn clip_before(ctb: u32, line: bool, boundaries: &[u16], disabled: bool, x: u32) -> Clip
+// Left of x or above it: the line-buffer boundary, a virtual boundary, or the CTB's side.
+pub fn clip_before(ctb: u32, line: bool, boundaries: &[u16], side: ClipCause, x: u32) -> Edge
     requires { ⌜ Bounded ctb x ⌝ }
-    ensures { λ r. ⌜ ((size ratio : ℕ) (off : Side → Bool) → off before ≡ disabled
-        → clipOf r ≡ clipPosition (axisOf size ctb (now (boundaries .entry)) line ratio) x off before) ⌝ }
+    ensures { λ r. ⌜ ((size ratio : ℕ) (sides : Side → ClipCause) → sides before ≡ side
+        → clipOf r ≡ clip (axisOf size ctb (now (boundaries .entry)) line ratio) x sides before) ⌝ }
 {
     let by_line = line_clip_before(ctb, line, x);
     let by_boundary = virtual_clip(false, boundaries, x);
-    let by_side = side_clip_before(ctb, disabled, x);
+    let by_side = side_clip_before(ctb, side, x);
     or_else(by_line, or_else(by_boundary, by_side))
 }
 
-// The clip position right of x or below it: by a virtual boundary, the line-buffer boundary, or the CTB's side.
-pub fn clip_after(ctb: u32, line: bool, boundaries: &[u16], disabled: bool, x: u32) -> Clip
+// Right of x or below it: a virtual boundary, the line-buffer boundary, or the CTB's side.
+pub fn clip_after(ctb: u32, line: bool, boundaries: &[u16], side: ClipCause, x: u32) -> Edge
     requires { ⌜ Bounded ctb x ⌝ }
-    ensures { λ r. ⌜ ((size ratio : ℕ) (off : Side → Bool) → off after ≡ disabled
-        → clipOf r ≡ clipPosition (axisOf size ctb (now (boundaries .entry)) line ratio) x off after) ⌝ }
+    ensures { λ r. ⌜ ((size ratio : ℕ) (sides : Side → ClipCause) → sides after ≡ side
+        → clipOf r ≡ clip (axisOf size ctb (now (boundaries .entry)) line ratio) x sides after) ⌝ }
 {
     let by_boundary = virtual_clip(true, boundaries, x);
     let by_line = line_clip_after(ctb, line, x);
-    let by_side = side_clip_after(ctb, disabled, x);
+    let by_side = side_clip_after(ctb, side, x);
     or_else(by_boundary, or_else(by_line, by_side))
 }

@@ -1,18 +1,36 @@
-// The sides and corners of a CTB across which filtering is disabled.
+// The sides of a CTB, by what closes them, and its corners across which filtering is disabled.
 ghost use mathlib.Core.Path.{_≡_};
-ghost use mathlib.Core.Bool.{true, not, _&&_};
+ghost use mathlib.Core.Bool.{true, not, _&&_, cond};
 ghost use mathlib.Core.List.{List};
-ghost use Prim.Native.Nat.{ℕ, pred, _+_, _*_, _<_};
+ghost use Prim.Native.Nat.{ℕ, _+_, _*_, _<_};
 ghost use lib.Dec.{eqb};
 ghost use lib.ListN.{length, getD};
+ghost use Rattle.alf_spec.specs.declared.ClipCause.the-variants.{Open};
 ghost use Rattle.alf_spec.specs.Input.{layoutOf};
+ghost use Rattle.alf_spec.specs.Boundary.{isClosed};
 ghost use Rattle.alf_math.specs.Grids.{GridOf};
 ghost use Rattle.alf_boundary.specs.Tables.{TablesOf, SidesOf};
-ghost use Rattle.alf_boundary.specs.Memberships.{InTables, membershipAt, sliceStepDisabled, stepDisabled};
+ghost use Rattle.alf_boundary.specs.Memberships.{InTables, membershipAt, sliceStepDisabled, causeInto};
+use alf_math::grid::previous;
+use alf_spec::ClipCause;
 use alf_spec::Ctb;
 use alf_spec::Grid;
 use alf_spec::Picture;
 use alf_spec::Sides;
+
+// Whether filtering across a side with this cause is disabled.
+pub fn is_closed(side: ClipCause) -> bool
+    ensures { λ r. ⌜ r ≡ isClosed side ⌝ }
+{
+    match side {
+        ClipCause::Open => false,
+        ClipCause::LineBufferBoundary => true,
+        ClipCause::VirtualBoundary => true,
+        ClipCause::Tile => true,
+        ClipCause::Slice => true,
+        ClipCause::Subpicture => true,
+    }
+}
 
 // The tile, the slice and the subpicture of a CTB, and that subpicture's switch.
 struct Membership {
@@ -89,19 +107,30 @@ fn slice_step_disabled(origin: Origin, slice: u8) -> bool
     !(own.slice == slice) & !origin.across_slices
 }
 
-// The step into a CTB of this membership is disabled: it is of another tile, slice or subpicture, and the switch for that is off.
-fn step_disabled(origin: Origin, into: Membership) -> bool
-    ensures { λ r. ⌜ r ≡ stepDisabled origin into ⌝ }
+// What disables the step into a CTB of this membership: it is of another tile, slice or subpicture, and the switch for that is off. The first of
+// these counts.
+fn step_cause(origin: Origin, into: Membership) -> ClipCause
+    ensures { λ r. ⌜ r ≡ causeInto origin into ⌝ }
 {
     let own = origin.own;
     let same_tile = (own.tile_column == into.tile_column) & (own.tile_row == into.tile_row);
     let tile = !same_tile & !origin.across_tiles;
+    let slice = slice_step_disabled(origin, into.slice);
     let subpic = !(own.subpic == into.subpic) & !own.across_subpic;
-    tile | (slice_step_disabled(origin, into.slice) | subpic)
+    if tile {
+        return ClipCause::Tile;
+    }
+    if slice {
+        return ClipCause::Slice;
+    }
+    if subpic {
+        return ClipCause::Subpicture;
+    }
+    ClipCause::Open
 }
 
-// Filtering across the side toward a neighbour is disabled; where there is none, nothing is read.
-fn side_disabled(
+// What closes the side toward a neighbour; where there is none, nothing is read.
+fn side_cause(
     origin: Origin,
     tile_columns: &[u8],
     tile_rows: &[u8],
@@ -109,14 +138,14 @@ fn side_disabled(
     subpic_map: &[u8],
     subpic_across: &[u8],
     n: Neighbour,
-) -> bool
+) -> ClipCause
     requires { ⌜ (n .there ≡ true
         → InTables (origin .columns) (now «tile_columns») (now «tile_rows») (now «slice_map») (now «subpic_map») (now «subpic_across») (n .ctb)) ⌝ }
-    ensures { λ r. ⌜ r ≡ (n .there && stepDisabled origin (membershipAt (origin .columns) (now («tile_columns» .entry)) (now («tile_rows» .entry))
-        (now («slice_map» .entry)) (now («subpic_map» .entry)) (now («subpic_across» .entry)) (n .ctb))) ⌝ }
+    ensures { λ r. ⌜ r ≡ cond (n .there) (causeInto origin (membershipAt (origin .columns) (now («tile_columns» .entry)) (now («tile_rows» .entry))
+        (now («slice_map» .entry)) (now («subpic_map» .entry)) (now («subpic_across» .entry)) (n .ctb))) Open ⌝ }
 {
     if !n.there {
-        return false;
+        return ClipCause::Open;
     }
     let columns = origin.columns;
     let into = membership_of(
@@ -128,7 +157,7 @@ fn side_disabled(
         subpic_across,
         n.ctb,
     );
-    step_disabled(origin, into)
+    step_cause(origin, into)
 }
 
 // Filtering across the corner toward a neighbour is disabled, by slices alone.
@@ -142,13 +171,6 @@ fn corner_disabled(origin: Origin, slice_map: &[u8], n: Neighbour) -> bool
     }
     let at = address(origin.columns, n.ctb);
     slice_step_disabled(origin, slice_map[at])
-}
-
-// The place before n, or n itself at 0.
-fn previous(n: u32) -> u32
-    ensures { λ r. ⌜ r ≡ pred n ⌝ }
-{
-    if 0 < n { n - 1 } else { n }
 }
 
 // The neighbour at this place, where it is there.
@@ -165,7 +187,7 @@ fn neighbour_at(there: bool, column: u32, row: u32) -> Neighbour
     }
 }
 
-// The sides and corners of a CTB across which filtering is disabled.
+// The sides of a CTB, by what closes them, and its corners across which filtering is disabled.
 pub fn sides_of(
     picture: Picture,
     grid: Grid,
@@ -213,7 +235,7 @@ pub fn sides_of(
     let upper_left = neighbour_at((0 < x) & (0 < y), x_before, y_before);
     let lower_right = neighbour_at((x_after < columns) & (y_after < rows), x_after, y_after);
     Sides {
-        left: side_disabled(
+        left: side_cause(
             here,
             tile_columns,
             tile_rows,
@@ -222,7 +244,7 @@ pub fn sides_of(
             subpic_across,
             left,
         ),
-        right: side_disabled(
+        right: side_cause(
             here,
             tile_columns,
             tile_rows,
@@ -231,7 +253,7 @@ pub fn sides_of(
             subpic_across,
             right,
         ),
-        top: side_disabled(
+        top: side_cause(
             here,
             tile_columns,
             tile_rows,
@@ -240,7 +262,7 @@ pub fn sides_of(
             subpic_across,
             above,
         ),
-        bottom: side_disabled(
+        bottom: side_cause(
             here,
             tile_columns,
             tile_rows,

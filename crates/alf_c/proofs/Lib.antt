@@ -1,2 +1,3 @@
 -- Claims about the C interface.
+pub mod Named
 pub mod Written

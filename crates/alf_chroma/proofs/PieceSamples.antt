@@ -14,7 +14,7 @@ use Rattle.alf_spec.specs.declared.Sides.{Sides}
 use Rattle.alf_spec.specs.Lists.{painted}
 use Rattle.alf_spec.specs.Input.{Layout, Input}
 use Rattle.alf_spec.specs.Geometry.{subWidth, subHeight, planeOf, chromaPlane, samples, ctbAt, lineRule, bottomDistance}
-use Rattle.alf_spec.specs.Boundary.{columnDisabled, rowDisabled}
+use Rattle.alf_spec.specs.Boundary.{columnSide, rowSide}
 use Rattle.alf_spec.specs.Arithmetic.{filtered}
 use Rattle.alf_spec.specs.Chroma.{chromaPlus, chromaMinus, chromaRead, chromaWith, chromaSample}
 use Rattle.alf_spec.specs.Process.{atIndex}
@@ -42,8 +42,8 @@ columns-wide l e r = rw (e, r)
 
 -- an input, a piece of a CTB of it, and the piece's copy
 module _ (i : Input) {p : Picture} {c : Ctb} {s : Sides} (ctb : CtbOf (i .layout) p c s) {columns rows : Piece}
-    (across : PieceOf (chromaPlane (i .layout) .columns) (columnDisabled (i .layout) c) (c .column) columns)
-    (down : PieceOf (chromaPlane (i .layout) .rows) (rowDisabled (i .layout) c) (c .row) rows)
+    (across : PieceOf (chromaPlane (i .layout) .columns) (columnSide (i .layout) c) (c .column) columns)
+    (down : PieceOf (chromaPlane (i .layout) .rows) (rowSide (i .layout) c) (c .row) rows)
     (copy copy0 : List ℕ) {width : ℕ} (wide : samples (chromaPlane (i .layout) .columns) ≡ width)
     (copies : copy ≡ painted copy0 (between 0 (copyLength columns rows)) (copyAt columns rows s (i .chroma) width))
     (room : copyLength columns rows ≤ length copy0) (component : ℕ) where

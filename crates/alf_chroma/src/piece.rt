@@ -6,7 +6,7 @@ ghost use lib.IntN.{pos};
 ghost use Rattle.alf_spec.specs.Lists.{painted};
 ghost use Rattle.alf_spec.specs.Input.{Input};
 ghost use Rattle.alf_spec.specs.Geometry.{subWidth, subHeight, chromaPlane};
-ghost use Rattle.alf_spec.specs.Boundary.{columnDisabled, rowDisabled};
+ghost use Rattle.alf_spec.specs.Boundary.{columnSide, rowSide};
 ghost use Rattle.alf_spec.specs.Chroma.{chromaSample};
 ghost use Rattle.alf_spec.specs.Process.{atIndex};
 ghost use Rattle.alf_spec.specs.declared.Ctb.{Ctb};
@@ -149,8 +149,8 @@ pub fn filter_piece(
         × (PieceIn (picture .width / subWidth picture) columns) × (PieceIn (picture .height / subHeight picture) rows) ⌝ }
     ensures { λ _. ⌜ (((i : Input) (c : Ctb) (component : ℕ) → CtbOf (i .layout) picture c sides → i .chroma ≡ now (chroma .entry)
         → ChromaFilter i c component (now (filters .entry))
-        → PieceOf (chromaPlane (i .layout) .columns) (columnDisabled (i .layout) c) (c .column) columns
-        → PieceOf (chromaPlane (i .layout) .rows) (rowDisabled (i .layout) c) (c .row) rows
+        → PieceOf (chromaPlane (i .layout) .columns) (columnSide (i .layout) c) (c .column) columns
+        → PieceOf (chromaPlane (i .layout) .rows) (rowSide (i .layout) c) (c .row) rows
         → now (output .exit) ≡ painted (now (output .entry))
         (inRect (picture .width / subWidth picture) (columns .start) (columns .end) (rows .start) (rows .end))
         (atIndex (chromaPlane (i .layout)) (chromaSample i component)))

@@ -6,7 +6,7 @@ ghost use lib.ListN.{length};
 ghost use Rattle.alf_spec.specs.Lists.{painted};
 ghost use Rattle.alf_spec.specs.Input.{Layout, layoutOf, classes, classesInput};
 ghost use Rattle.alf_spec.specs.Geometry.{ctbSize, lumaPlane, classPlane};
-ghost use Rattle.alf_spec.specs.Boundary.{columnDisabled, rowDisabled};
+ghost use Rattle.alf_spec.specs.Boundary.{columnSide, rowSide};
 ghost use Rattle.alf_spec.specs.Process.{classAt, classMap};
 ghost use Rattle.alf_spec.specs.Faults.{virtualListValid, fault};
 ghost use Rattle.alf_spec.specs.declared.Ctb.{Ctb};
@@ -16,7 +16,6 @@ ghost use Rattle.alf_pieces.specs.Pieces.{PieceOf, BlockPiece, CtbOf};
 ghost use Rattle.alf_pieces.specs.Copies.{area};
 ghost use Rattle.alf_pieces.specs.CtbRegions.{ofCtb};
 ghost use Rattle.alf_class_map.specs.Work.{ClassWork};
-use alf_boundary::padding::least;
 use alf_boundary::sides::sides_of;
 use alf_classify::AREA;
 use alf_classify::piece_classes;
@@ -24,6 +23,7 @@ use alf_math::grid::grid;
 use alf_pieces::copies::copy_piece;
 use alf_pieces::pieces::Piece;
 use alf_pieces::pieces::column_piece;
+use alf_pieces::pieces::ctb_limit;
 use alf_pieces::pieces::row_piece;
 use alf_spec::Ctb;
 use alf_spec::Grid;
@@ -45,7 +45,7 @@ fn class_piece(
     requires { ⌜ (ClassWork picture grid (now luma) (length (now copy)) (length (now differences)) (length (now map)))
         × (BlockPiece (picture .width) columns) × (BlockPiece (picture .height) rows) ⌝ }
     ensures { λ _. ⌜ ((l : Layout) (c : Ctb) → CtbOf l picture c sides
-        → PieceOf (lumaPlane l .columns) (columnDisabled l c) (c .column) columns → PieceOf (lumaPlane l .rows) (rowDisabled l c) (c .row) rows
+        → PieceOf (lumaPlane l .columns) (columnSide l c) (c .column) columns → PieceOf (lumaPlane l .rows) (rowSide l c) (c .row) rows
         → now (map .exit) ≡ painted (now (map .entry))
         (inRect (picture .width / 4) (columns .start / 4) (columns .end / 4) (rows .start / 4) (rows .end / 4)) (classAt l (now (luma .entry)))) ⌝ }
 {
@@ -81,13 +81,13 @@ fn class_strip(
         × (virtualListValid (picture .width) (ctbSize picture) (now «virtual_columns») ≡ true)
         × (BlockPiece (picture .height) rows) × (ctb .column * grid .ctb < picture .width) ⌝ }
     ensures { λ _. ⌜ ((l : Layout) → CtbOf l picture ctb sides → l .virtualColumns ≡ now («virtual_columns» .entry)
-        → PieceOf (lumaPlane l .rows) (rowDisabled l ctb) (ctb .row) rows
+        → PieceOf (lumaPlane l .rows) (rowSide l ctb) (ctb .row) rows
         → now (map .exit) ≡ painted (now (map .entry))
         (inRect (picture .width / 4) (ctb .column * grid .ctb / 4) (min (ctb .column * grid .ctb + grid .ctb) (picture .width) / 4)
         (rows .start / 4) (rows .end / 4)) (classAt l (now (luma .entry)))) ⌝ }
 {
     let left = ctb.column * grid.ctb;
-    let right = least(left + grid.ctb, picture.width);
+    let right = ctb_limit(picture.width, grid.ctb, ctb.column);
     let mut x = left;
     while x < right {
         let columns = column_piece(picture, grid, virtual_columns, 1, sides, ctb.column, x);
@@ -129,7 +129,7 @@ fn class_ctb(
         (ctb .row * grid .ctb / 4) (min (ctb .row * grid .ctb + grid .ctb) (picture .height) / 4)) (classAt l (now (luma .entry)))) ⌝ }
 {
     let top = ctb.row * grid.ctb;
-    let bottom = least(top + grid.ctb, picture.height);
+    let bottom = ctb_limit(picture.height, grid.ctb, ctb.row);
     let mut y = top;
     while y < bottom {
         let rows = row_piece(picture, grid, virtual_rows, 1, sides, ctb.row, y);

@@ -12,7 +12,7 @@ use Rattle.alf_spec.specs.declared.Sides.{Sides}
 use Rattle.alf_spec.specs.Lists.{painted}
 use Rattle.alf_spec.specs.Input.{Layout}
 use Rattle.alf_spec.specs.Geometry.{ctbSize, planeOf, lumaPlane, lineRule}
-use Rattle.alf_spec.specs.Boundary.{columnDisabled, rowDisabled}
+use Rattle.alf_spec.specs.Boundary.{columnSide, rowSide}
 use Rattle.alf_spec.specs.Padding.{read}
 use Rattle.alf_spec.specs.Classes.{classWindow, classOf, blockClass}
 use Rattle.alf_spec.specs.Process.{classNumber, classAt}
@@ -38,7 +38,7 @@ block-in : {n : ℕ} {p : Piece} → BlockPiece n p → (b : ℕ) → p .start /
 block-in B b low high = omega (arith, B .start4, B .end4)
 
 module _ {l : Layout} {p : Picture} {c : Ctb} {s : Sides} (ctb : CtbOf l p c s) {g : Grid} (grid : GridOf p g) {columns rows : Piece}
-    (across : PieceOf (lumaPlane l .columns) (columnDisabled l c) (c .column) columns) (down : PieceOf (lumaPlane l .rows) (rowDisabled l c) (c .row) rows)
+    (across : PieceOf (lumaPlane l .columns) (columnSide l c) (c .column) columns) (down : PieceOf (lumaPlane l .rows) (rowSide l c) (c .row) rows)
     (luma copy copy0 : List ℕ)
     (copies : copy ≡ painted copy0 (between 0 (copyLength columns rows)) (copyAt columns rows s luma (p .width)))
     (room : copyLength columns rows ≤ length copy0) where

@@ -15,7 +15,7 @@ use Rattle.alf_spec.specs.declared.Sides.{Sides}
 use Rattle.alf_spec.specs.Lists.{painted}
 use Rattle.alf_spec.specs.Input.{Layout, Input}
 use Rattle.alf_spec.specs.Geometry.{subWidth, subHeight, ctbSize, planeOf, lumaPlane, chromaPlane, ctbAt, lineRule, bottomDistance}
-use Rattle.alf_spec.specs.Boundary.{columnDisabled, rowDisabled}
+use Rattle.alf_spec.specs.Boundary.{columnSide, rowSide}
 use Rattle.alf_spec.specs.Padding.{read}
 use Rattle.alf_spec.specs.Parameters.{crossAps, crossIndex, crossCoeff}
 use Rattle.alf_spec.specs.CrossComponent.{crossRows, crossTaps, crossSum, corrected, crossWith, crossSample}
@@ -54,8 +54,8 @@ offsets-same l y = simp (mul-one, div-one)
 
 module _ {i : Input} {p : Picture} {c : Ctb} {s : Sides} (ctb : CtbOf (i .layout) p c s) {g : Grid} (grid : GridOf p g)
     {component : ℕ} {filters : List ℤ} (filter : CrossFilter i c component filters) {columns rows : Piece}
-    (across : PieceOf (lumaPlane (i .layout) .columns) (columnDisabled (i .layout) c) (c .column) columns)
-    (down : PieceOf (lumaPlane (i .layout) .rows) (rowDisabled (i .layout) c) (c .row) rows)
+    (across : PieceOf (lumaPlane (i .layout) .columns) (columnSide (i .layout) c) (c .column) columns)
+    (down : PieceOf (lumaPlane (i .layout) .rows) (rowSide (i .layout) c) (c .row) rows)
     {luma chroma : List ℕ} (isLuma : i .luma ≡ luma) (isChroma : i .chroma ≡ chroma) (copy copy0 split : List ℕ)
     (copies : copy ≡ painted copy0 (between 0 (copyLength columns rows)) (copyAt columns rows s luma (p .width)))
     (room : copyLength columns rows ≤ length copy0) (isSplit : Split copy split (pitch columns) (subWidth p) (pitch rows)) where

@@ -5,7 +5,7 @@ ghost use lib.ListN.{length};
 ghost use Rattle.alf_spec.specs.Lists.{painted};
 ghost use Rattle.alf_spec.specs.Input.{Input};
 ghost use Rattle.alf_spec.specs.Geometry.{subWidth, subHeight, lumaPlane, chromaPlane};
-ghost use Rattle.alf_spec.specs.Boundary.{columnDisabled, rowDisabled};
+ghost use Rattle.alf_spec.specs.Boundary.{columnSide, rowSide};
 ghost use Rattle.alf_spec.specs.CrossComponent.{crossSample};
 ghost use Rattle.alf_spec.specs.Process.{atIndex};
 ghost use Rattle.alf_spec.specs.declared.Ctb.{Ctb};
@@ -125,8 +125,8 @@ pub fn filter_piece(
         × (BlockPiece (picture .width) columns) × (BlockPiece (picture .height) rows) ⌝ }
     ensures { λ _. ⌜ ((i : Input) (c : Ctb) (component : ℕ) → CtbOf (i .layout) picture c sides
         → i .luma ≡ now (luma .entry) → i .chroma ≡ now (chroma .entry) → CrossFilter i c component (now (filters .entry))
-        → PieceOf (lumaPlane (i .layout) .columns) (columnDisabled (i .layout) c) (c .column) columns
-        → PieceOf (lumaPlane (i .layout) .rows) (rowDisabled (i .layout) c) (c .row) rows
+        → PieceOf (lumaPlane (i .layout) .columns) (columnSide (i .layout) c) (c .column) columns
+        → PieceOf (lumaPlane (i .layout) .rows) (rowSide (i .layout) c) (c .row) rows
         → now (output .exit) ≡ painted (now (output .entry))
         (inRect (picture .width / subWidth picture) (columns .start / subWidth picture) (columns .end / subWidth picture)
         (rows .start / subHeight picture) (rows .end / subHeight picture))

@@ -13,7 +13,7 @@ use Rattle.alf_spec.specs.declared.Sides.{Sides}
 use Rattle.alf_spec.specs.Lists.{painted}
 use Rattle.alf_spec.specs.Input.{Input}
 use Rattle.alf_spec.specs.Geometry.{subWidth, subHeight, ctbSize, planeOf, lumaPlane, chromaPlane}
-use Rattle.alf_spec.specs.Boundary.{columnDisabled, rowDisabled}
+use Rattle.alf_spec.specs.Boundary.{columnSide, rowSide}
 use Rattle.alf_spec.specs.Luma.{lumaSample}
 use Rattle.alf_spec.specs.Chroma.{chromaSample}
 use Rattle.alf_spec.specs.CrossComponent.{crossSample}
@@ -126,8 +126,8 @@ module _ (f : Filter) (p : Picture) (sides : Sides) (columns rows : Piece) (luma
   Named f = PieceFiltered f p sides columns rows luma chroma filters old new
 
   pub luma-filtered : f ≡ Luma → ((i : Input) (c : Ctb) → CtbOf (i .layout) p c sides → i .luma ≡ luma → LumaFilters i c filters
-      → PieceOf (lumaPlane (i .layout) .columns) (columnDisabled (i .layout) c) (c .column) columns
-      → PieceOf (lumaPlane (i .layout) .rows) (rowDisabled (i .layout) c) (c .row) rows
+      → PieceOf (lumaPlane (i .layout) .columns) (columnSide (i .layout) c) (c .column) columns
+      → PieceOf (lumaPlane (i .layout) .rows) (rowSide (i .layout) c) (c .row) rows
       → new ≡ painted old (inRect (p .width) (columns .start) (columns .end) (rows .start) (rows .end)) (atIndex (lumaPlane (i .layout)) (lumaSample i)))
       → Named f
   luma-filtered e h = subst Named (sym e) (λ i c of same other own across down. simp div-one (h i c of same own across down))
@@ -135,8 +135,8 @@ module _ (f : Filter) (p : Picture) (sides : Sides) (columns rows : Piece) (luma
   pub chroma-filtered : {component : ℕ} → f ≡ Chroma component → BlockPiece (p .width) columns → BlockPiece (p .height) rows
       → {columns′ rows′ : Piece} → columns′ ≡ scaled (subWidth p) columns → rows′ ≡ scaled (subHeight p) rows
       → ((i : Input) (c : Ctb) (component : ℕ) → CtbOf (i .layout) p c sides → i .chroma ≡ chroma → ChromaFilter i c component filters
-      → PieceOf (chromaPlane (i .layout) .columns) (columnDisabled (i .layout) c) (c .column) columns′
-      → PieceOf (chromaPlane (i .layout) .rows) (rowDisabled (i .layout) c) (c .row) rows′
+      → PieceOf (chromaPlane (i .layout) .columns) (columnSide (i .layout) c) (c .column) columns′
+      → PieceOf (chromaPlane (i .layout) .rows) (rowSide (i .layout) c) (c .row) rows′
       → new ≡ painted old (inRect (p .width / subWidth p) (columns′ .start) (columns′ .end) (rows′ .start) (rows′ .end))
       (atIndex (chromaPlane (i .layout)) (chromaSample i component)))
       → Named f
@@ -147,17 +147,17 @@ module _ (f : Filter) (p : Picture) (sides : Sides) (columns rows : Piece) (luma
       let width : subWidth p ≡ subWidth (l .picture) = ap subWidth (sym (of .picture)) in
       let height : subHeight p ≡ subHeight (l .picture) = ap subHeight (sym (of .picture)) in
       h i c component of same own
-      (rw (column, ← width) (scaled-piece (l .picture .width) (ctbSize (l .picture)) (l .virtualColumns) false (columnDisabled l c) (c .column) (subWidth p)
+      (rw (column, ← width) (scaled-piece (l .picture .width) (ctbSize (l .picture)) (l .virtualColumns) false (columnSide l c) (c .column) (subWidth p)
       (boundary (subWidth p) (ratios .0) (columns .start) (wide .start4)) across))
-      (rw (row, ← height) (scaled-piece (l .picture .height) (ctbSize (l .picture)) (l .virtualRows) true (rowDisabled l c) (c .row) (subHeight p)
+      (rw (row, ← height) (scaled-piece (l .picture .height) (ctbSize (l .picture)) (l .virtualRows) true (rowSide l c) (c .row) (subHeight p)
       (boundary (subHeight p) (ratios .1) (rows .start) (high .start4)) down))
       ∙ (λ t. painted old (inRect (p .width / subWidth p) (column t .start) (column t .end) (row t .start) (row t .end))
       (atIndex (chromaPlane (i .layout)) (chromaSample i component))))
 
   pub cross-filtered : {component : ℕ} → f ≡ CrossComponent component
       → ((i : Input) (c : Ctb) (component : ℕ) → CtbOf (i .layout) p c sides → i .luma ≡ luma → i .chroma ≡ chroma → CrossFilter i c component filters
-      → PieceOf (lumaPlane (i .layout) .columns) (columnDisabled (i .layout) c) (c .column) columns
-      → PieceOf (lumaPlane (i .layout) .rows) (rowDisabled (i .layout) c) (c .row) rows
+      → PieceOf (lumaPlane (i .layout) .columns) (columnSide (i .layout) c) (c .column) columns
+      → PieceOf (lumaPlane (i .layout) .rows) (rowSide (i .layout) c) (c .row) rows
       → new ≡ painted old (inRect (p .width / subWidth p) (columns .start / subWidth p) (columns .end / subWidth p)
       (rows .start / subHeight p) (rows .end / subHeight p)) (atIndex (chromaPlane (i .layout)) (crossSample i component)))
       → Named f

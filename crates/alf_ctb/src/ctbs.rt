@@ -10,9 +10,9 @@ ghost use Rattle.alf_taps.specs.Spread.{TapNumbers};
 ghost use Rattle.alf_ctb.specs.Work.{Given, Rooms, Numbers, ColumnsFiltered, RowsFiltered};
 use crate::Filter;
 use crate::pieces::filter_piece;
-use alf_boundary::padding::least;
 use alf_pieces::pieces::Piece;
 use alf_pieces::pieces::column_piece;
+use alf_pieces::pieces::ctb_limit;
 use alf_pieces::pieces::row_piece;
 use alf_spec::Ctb;
 use alf_spec::Grid;
@@ -46,7 +46,7 @@ fn filter_strip(
         × (TapNumbers (now (taps .exit))) ⌝ }
 {
     let left = ctb.column * grid.ctb;
-    let right = least(left + grid.ctb, picture.width);
+    let right = ctb_limit(picture.width, grid.ctb, ctb.column);
     let mut x = left;
     while x < right {
         let columns = column_piece(picture, grid, virtual_columns, 1, sides, ctb.column, x);
@@ -98,7 +98,7 @@ pub fn filter_ctb(
         (now (output .exit))) × (TapNumbers (now (taps .exit))) ⌝ }
 {
     let top = ctb.row * grid.ctb;
-    let bottom = least(top + grid.ctb, picture.height);
+    let bottom = ctb_limit(picture.height, grid.ctb, ctb.row);
     let mut y = top;
     while y < bottom {
         let rows = row_piece(picture, grid, virtual_rows, 1, sides, ctb.row, y);

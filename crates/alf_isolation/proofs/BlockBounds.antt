@@ -12,12 +12,14 @@ use Rattle.alf_spec.specs.declared.Ctb.{Ctb}
 use Rattle.alf_spec.specs.declared.Picture.{Picture}
 use Rattle.alf_spec.specs.declared.Sides.{Sides}
 use Rattle.alf_spec.specs.Lists.{allBelow}
+use Rattle.alf_spec.specs.Boundary.{isClosed}
 use Rattle.alf_spec.proofs.Tests.{both, neither}
+use Rattle.alf_isolation.specs.declared.steps.BlockSides.{BlockSides}
 use Rattle.alf_isolation.specs.Steps.{stepOpen, rowSides, blockSides, blocksAlong, blockTest, rowTest, ctbTest, BlocksOf, RowIn, BlockIn}
 
 -- ---- diagonal steps lead to a block of the region
 
-module _ {n columns k : ℕ} {s : Sides} (b : BlockIn n columns k s) where
+module _ {n columns k : ℕ} {s : BlockSides} (b : BlockIn n columns k s) where
   pub upper-left : (s .left || (s .top || s .«upper_left»)) ≡ false → columns + 1 ≤ k
   upper-left e =
       let p = neither (s .left) _ e in
@@ -44,8 +46,8 @@ open-within size ctb list disabled b e =
     (ltb-true 0 b (p .0), ltb-true b size (p .1))
 
 -- a block of a row
-pub block-in : {width ctb n from : ℕ} {s : Sides} → RowIn width ctb n from s → (list : List ℕ) (x : ℕ) → x < width / 8
-    → {own : Sides} → own ≡ blockSides width ctb list s x → BlockIn n (width / 8) (from + x) own
+pub block-in : {width ctb n from : ℕ} {s : BlockSides} → RowIn width ctb n from s → (list : List ℕ) (x : ℕ) → x < width / 8
+    → {own : BlockSides} → own ≡ blockSides width ctb list s x → BlockIn n (width / 8) (from + x) own
 unfolding blockSides
 block-in {width} {ctb} {n} {from} {s} r list x h e = rw e (record {
   wide = omega arith;
@@ -71,7 +73,7 @@ row-begins b y h = mul-le-mul {n₂ = 512} {m₂ = 512} (omega (arith, b .height
 
 -- a row of blocks
 pub row-in : {p : Picture} {ctb : ℕ} {region : List ℕ} → BlocksOf p ctb region → (list : List ℕ) (s : Sides) (y : ℕ) → y < p .height / 8
-    → {own : Sides} → own ≡ rowSides (p .height) ctb list s y → RowIn (p .width) ctb (length region) (y * (p .width / 8)) own
+    → {own : BlockSides} → own ≡ rowSides (p .height) ctb list s y → RowIn (p .width) ctb (length region) (y * (p .width / 8)) own
 unfolding rowSides
 row-in {p} {ctb} {region} b list s y h e = rw e (record {
   ctbLow = b .ctbLow;
@@ -87,16 +89,16 @@ row-in {p} {ctb} {region} b list s y h e = rw e (record {
     room : (n : ℕ) → n ≤ p .height / 8 → n * (p .width / 8) ≤ length region
     room n k = rw (b .numbers, mul-comm (p .width / 8)) (mul-le-mul-right (p .width / 8) k)
 
-    above : not (stepOpen (p .height) ctb list (s .top) (8 * y)) ≡ false → 1 ≤ y
-    above t = omega (arith, open-within (p .height) ctb list (s .top) (8 * y) (not-false _ t))
+    above : not (stepOpen (p .height) ctb list (isClosed (s .top)) (8 * y)) ≡ false → 1 ≤ y
+    above t = omega (arith, open-within (p .height) ctb list (isClosed (s .top)) (8 * y) (not-false _ t))
 
-    below : not (stepOpen (p .height) ctb list (s .bottom) (8 * y + 8)) ≡ false → y + 2 ≤ p .height / 8
-    below t = omega (arith, open-within (p .height) ctb list (s .bottom) (8 * y + 8) (not-false _ t), b .height8)
+    below : not (stepOpen (p .height) ctb list (isClosed (s .bottom)) (8 * y + 8)) ≡ false → y + 2 ≤ p .height / 8
+    below t = omega (arith, open-within (p .height) ctb list (isClosed (s .bottom)) (8 * y + 8) (not-false _ t), b .height8)
 
 -- ---- the tests, as the code has them
 
 module _ (p : Picture) (ctb : ℕ) (virtualColumns virtualRows region : List ℕ) (s : Sides) where
-  pub row-test : (first count y : ℕ) {own : Sides} → own ≡ rowSides (p .height) ctb virtualRows s y
+  pub row-test : (first count y : ℕ) {own : BlockSides} → own ≡ rowSides (p .height) ctb virtualRows s y
       → {r : Bool} → r ≡ allBelow count (λ i. blockTest (p .width) ctb virtualColumns region (y * (p .width / 8)) own (first + i))
       → r ≡ rowTest p ctb virtualColumns virtualRows region s first count y
   unfolding rowTest

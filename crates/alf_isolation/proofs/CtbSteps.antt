@@ -12,13 +12,15 @@ use Rattle.alf_spec.specs.declared.Sides.{Sides}
 use Rattle.alf_spec.specs.Lists.{implies}
 use Rattle.alf_spec.specs.Input.{Layout}
 use Rattle.alf_spec.specs.Geometry.{Side, before, after, sameSide, next, ctbSize, planeOf, lumaPlane, blockPlane, ctbAt, ctbColumns, ctbRows}
-use Rattle.alf_spec.specs.Boundary.{sliceOf, tileDisables, sliceDisables, disables, besideCtb, stackedCtb, columnDisabled, rowDisabled, cornerDisabled}
+use Rattle.alf_spec.specs.Boundary.{isClosed, sliceOf, sliceDisables, stepCause, besideCtb, stackedCtb, columnSide, columnDisabled, rowSide, rowDisabled, cornerDisabled}
 use Rattle.alf_spec.specs.Isolation.{openStep, columnStep, rowStep, diagonalStep}
-use Rattle.alf_spec.proofs.Tests.{both, neither, all-same}
+use Rattle.alf_spec.proofs.Tests.{both, all-same}
 use Rattle.alf_spec.proofs.Accepted.{Accepted}
+use Rattle.alf_spec.proofs.Causes.{not-disabled}
 use Rattle.alf_spec.proofs.Axes.{regular-columns, regular-rows}
 use Rattle.alf_isolation.specs.Blocks.{edge, blockInside, blockStays, blockPasses, blocksIn, ctbPasses}
 use Rattle.alf_boundary.specs.Tables.{SidesOf}
+use Rattle.alf_isolation.specs.declared.steps.BlockSides.{BlockSides}
 use Rattle.alf_isolation.specs.Steps.{stepOpen, rowSides, blockSides, insideAt, neighboursInside, blocksAlong, blockTest, rowTest, ctbTest}
 use Rattle.alf_isolation.proofs.AxisSteps.{Crossing, stays, crosses, boundary, block-step, block-crossing, block-low}
 use Rattle.alf_isolation.proofs.CtbOrder.{block-below}
@@ -31,14 +33,14 @@ unfolding sliceDisables
 own-slice l c = simp (eq-eqb (sliceOf l c) (sliceOf l c) refl)
 
 -- the CTB across a side is of the same slice, or the slice switch is on
-one-slice : (l : Layout) (c n : Ctb) → disables l c n ≡ false → sliceDisables l c n ≡ false
-one-slice l c n e = neither (sliceDisables l c n) _ (neither (tileDisables l c n) _ e .1) .0
+one-slice : (l : Layout) (c n : Ctb) → isClosed (stepCause l c n) ≡ false → sliceDisables l c n ≡ false
+one-slice l c n e = not-disabled l c n e .1
 
 -- the slices count where the step crosses a CTB's corner: a side that is crossed is not disabled, and then not by slices
 corner-slices : (l : Layout) (c : Ctb) (d : Side) {q r : ℕ} {t u : Bool}
     → Crossing (ctbColumns l) (columnDisabled l c) d (c .column) q t → Crossing (ctbRows l) (rowDisabled l c) d (c .row) r u
     → sliceDisables l c (record { column = q; row = r }) ≡ (t && (u && cornerDisabled l c d))
-unfolding columnDisabled rowDisabled cornerDisabled
+unfolding columnSide rowSide cornerDisabled
 corner-slices l c d stays stays = own-slice l c
 corner-slices l c d stays (crosses k off) = one-slice l c (stackedCtb d c) (simp k at off)
 corner-slices l c d (crosses h off) stays = one-slice l c (besideCtb d c) (simp h at off)
@@ -165,7 +167,7 @@ module _ (l : Layout) (ok : Accepted l) (c : Ctb) (x y : ℕ)
 
   -- ---- the sides of the block, from those of the CTB
   module _ (s : Sides) (sides : SidesOf l c s) where
-    abbrev here : Sides
+    abbrev here : BlockSides
     here =
         blockSides (l .picture .width) (ctbSize (l .picture)) (l .virtualColumns)
         (rowSides (l .picture .height) (ctbSize (l .picture)) (l .virtualRows) s y) x

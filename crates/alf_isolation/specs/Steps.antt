@@ -12,6 +12,8 @@ use Rattle.alf_spec.specs.declared.Sides.{Sides}
 use Rattle.alf_spec.specs.Lists.{implies, allBelow, elem}
 use Rattle.alf_spec.specs.Input.{Layout}
 use Rattle.alf_spec.specs.Geometry.{ctbOf}
+use Rattle.alf_spec.specs.Boundary.{isClosed}
+use Rattle.alf_isolation.specs.declared.steps.BlockSides.{BlockSides}
 use Rattle.alf_isolation.specs.Blocks.{ctbPasses}
 
 -- ---- steps
@@ -22,20 +24,20 @@ unfoldable pub stepOpen : ℕ → ℕ → List ℕ → Bool → ℕ → Bool
 stepOpen size ctb boundaries disabled b =
     (ltb 0 b && ltb b size) && (not (elem b boundaries) && (not (eqb (b % ctb) 0) || not disabled))
 
--- of a row of blocks y in a CTB with the sides s. Top and bottom are disabled where no step across them is open; the corners count in the CTB's
--- first and last row.
-unfoldable pub rowSides : ℕ → ℕ → List ℕ → Sides → ℕ → Sides
+-- of a row of blocks y in a CTB with the sides s. Top and bottom are flagged where no step across them is open; the corners count in the CTB's first
+-- and last row.
+unfoldable pub rowSides : ℕ → ℕ → List ℕ → Sides → ℕ → BlockSides
 rowSides height ctb boundaries s y = record {
-  left = s .left;
-  right = s .right;
-  top = not (stepOpen height ctb boundaries (s .top) (8 * y));
-  bottom = not (stepOpen height ctb boundaries (s .bottom) (8 * y + 8));
+  left = isClosed (s .left);
+  right = isClosed (s .right);
+  top = not (stepOpen height ctb boundaries (isClosed (s .top)) (8 * y));
+  bottom = not (stepOpen height ctb boundaries (isClosed (s .bottom)) (8 * y + 8));
   «upper_left» = eqb ((8 * y) % ctb) 0 && s .«upper_left»;
   «lower_right» = eqb ((8 * y + 8) % ctb) 0 && s .«lower_right»;
 }
 
 -- the same of the block at column x in a row with the sides s
-unfoldable pub blockSides : ℕ → ℕ → List ℕ → Sides → ℕ → Sides
+unfoldable pub blockSides : ℕ → ℕ → List ℕ → BlockSides → ℕ → BlockSides
 blockSides width ctb boundaries s x = record {
   left = not (stepOpen width ctb boundaries (s .left) (8 * x));
   right = not (stepOpen width ctb boundaries (s .right) (8 * x + 8));
@@ -53,7 +55,7 @@ insideAt region k = eqb (getD region k 0) 1
 
 -- every block next to block k is in the region, over each side and corner of k that is not disabled: left and right, above and below, and
 -- diagonally, where a corner is passed only if both sides at it are
-unfoldable pub neighboursInside : List ℕ → ℕ → ℕ → Sides → Bool
+unfoldable pub neighboursInside : List ℕ → ℕ → ℕ → BlockSides → Bool
 neighboursInside region columns k s =
     ((s .left || insideAt region (k - 1)) && (s .right || insideAt region (k + 1)))
     && (((s .top || insideAt region (k - columns)) && (s .bottom || insideAt region (k + columns)))
@@ -69,7 +71,7 @@ unfoldable pub blocksAlong : ℕ → ℕ → ℕ → ℕ
 blocksAlong size ctb q = min (ctb / 8) (size / 8 - q * (ctb / 8))
 
 -- the block at column x, in the row of blocks that begins at `from` and has the sides s
-unfoldable pub blockTest : ℕ → ℕ → List ℕ → List ℕ → ℕ → Sides → ℕ → Bool
+unfoldable pub blockTest : ℕ → ℕ → List ℕ → List ℕ → ℕ → BlockSides → ℕ → Bool
 blockTest width ctb virtualColumns region from s x =
     implies (insideAt region (from + x)) (neighboursInside region (width / 8) (from + x) (blockSides width ctb virtualColumns s x))
 
@@ -104,7 +106,7 @@ pub record BlocksOf (p : Picture) (ctb : ℕ) (region : List ℕ) : Type 0 where
 
 -- a row of blocks that begins at `from`, with the sides s: it lies in the region of n numbers, and so do the rows next to it where a step leads
 -- there
-pub record RowIn (width ctb n from : ℕ) (s : Sides) : Type 0 where
+pub record RowIn (width ctb n from : ℕ) (s : BlockSides) : Type 0 where
   pub ctbLow : 32 ≤ ctb
   pub widthHigh : width ≤ 4096
   pub width8 : width % 8 ≡ 0
@@ -114,7 +116,7 @@ pub record RowIn (width ctb n from : ℕ) (s : Sides) : Type 0 where
   pub bottom : s .bottom ≡ false → from + width / 8 + width / 8 ≤ n
 
 -- block k with the sides s: it lies in the region of n numbers, and so do the blocks next to it where a step leads there
-pub record BlockIn (n columns k : ℕ) (s : Sides) : Type 0 where
+pub record BlockIn (n columns k : ℕ) (s : BlockSides) : Type 0 where
   pub wide : 0 < columns
   pub small : columns ≤ 512
   pub here : k < n

@@ -6,8 +6,8 @@ ghost use Prim.Native.Nat.{_+_, _-_, _/_, _≤_, _<_};
 ghost use lib.ListN.{length};
 ghost use Rattle.alf_spec.specs.Lists.{allBelow};
 ghost use Rattle.alf_isolation.specs.Steps.{insideAt, neighboursInside, blockTest, RowIn, BlockIn};
+use crate::steps::BlockSides;
 use crate::steps::block_sides;
-use alf_spec::Sides;
 
 // Whether a step over a side or a corner leads into the region, to the block `by` places before k; where it is disabled, there is no step.
 fn inside_before(disabled: bool, region: &[u8], k: usize, by: usize) -> bool
@@ -26,7 +26,7 @@ fn inside_after(disabled: bool, region: &[u8], k: usize, by: usize) -> bool
 }
 
 // Whether no open step leads from block k out of the region.
-fn neighbours_inside(region: &[u8], columns: usize, k: usize, sides: Sides) -> bool
+fn neighbours_inside(region: &[u8], columns: usize, k: usize, sides: BlockSides) -> bool
     requires { ⌜ BlockIn (length (now region)) columns k sides ⌝ }
     ensures { λ r. ⌜ r ≡ neighboursInside (now (region .entry)) columns k sides ⌝ }
 {
@@ -57,7 +57,7 @@ fn block_passes(
     virtual_columns: &[u16],
     region: &[u8],
     from: u32,
-    sides: Sides,
+    sides: BlockSides,
     x: u32,
 ) -> bool
     requires { ⌜ (RowIn width ctb (length (now region)) from sides) × (x < width / 8) ⌝ }
@@ -78,7 +78,7 @@ pub fn run_passes(
     virtual_columns: &[u16],
     region: &[u8],
     from: u32,
-    sides: Sides,
+    sides: BlockSides,
     first: u32,
     count: u32,
 ) -> bool

@@ -17,7 +17,7 @@ use Rattle.alf_spec.specs.Lists.{painted}
 use Rattle.alf_spec.specs.Arithmetic.{tapSum, filtered}
 use Rattle.alf_spec.specs.Input.{Layout, Input}
 use Rattle.alf_spec.specs.Geometry.{planeOf, lumaPlane, ctbAt, lineRule, bottomDistance}
-use Rattle.alf_spec.specs.Boundary.{columnDisabled, rowDisabled}
+use Rattle.alf_spec.specs.Boundary.{columnSide, rowSide}
 use Rattle.alf_spec.specs.Classes.{classOf, blockClass}
 use Rattle.alf_spec.specs.Luma.{lumaF, lumaC, tapOrder, lumaPlus, lumaMinus, lumaRowsAt, lumaRead, lumaWith, lumaSample}
 use Rattle.alf_spec.specs.Process.{classNumber, atIndex}
@@ -58,8 +58,8 @@ map-of p ctb copy columns rows old e count narrow low b r hb hr =
     (classOf (p .«bit_depth») (rowWindow (p .height) ctb (rows .start + 4 * row k)) (copyWindow copy (pitch columns) (4 * column k) (4 * row k))))
 
 module _ {i : Input} {p : Picture} {c : Ctb} {sides : Sides} (ctb : CtbOf (i .layout) p c sides) {g : Grid} (grid : GridOf p g) {columns rows : Piece}
-    (across : PieceOf (lumaPlane (i .layout) .columns) (columnDisabled (i .layout) c) (c .column) columns)
-    (down : PieceOf (lumaPlane (i .layout) .rows) (rowDisabled (i .layout) c) (c .row) rows) (copy copy0 : List ℕ)
+    (across : PieceOf (lumaPlane (i .layout) .columns) (columnSide (i .layout) c) (c .column) columns)
+    (down : PieceOf (lumaPlane (i .layout) .rows) (rowSide (i .layout) c) (c .row) rows) (copy copy0 : List ℕ)
     {luma : List ℕ} (given : i .luma ≡ luma)
     (filled : copy ≡ painted copy0 (between 0 (copyLength columns rows)) (copyAt columns rows sides luma (p .width)))
     (room : copyLength columns rows ≤ length copy0) (filters : List ℤ) (own : LumaFilters i c filters) where
@@ -69,10 +69,10 @@ module _ {i : Input} {p : Picture} {c : Ctb} {sides : Sides} (ctb : CtbOf (i .la
   copies : copy ≡ painted copy0 (between 0 (copyLength columns rows)) (copyAt columns rows sides (i .luma) (p .width))
   copies = filled ∙ ap (λ (plane : List ℕ). painted copy0 (between 0 (copyLength columns rows)) (copyAt columns rows sides plane (p .width))) (sym given)
 
-  abbrev inColumns : Facts (lumaPlane l .columns) (columnDisabled l c) (c .column) columns
+  abbrev inColumns : Facts (lumaPlane l .columns) (columnSide l c) (c .column) columns
   inColumns = column-facts ctb 1 1 whole across
 
-  abbrev inRows : Facts (lumaPlane l .rows) (rowDisabled l c) (c .row) rows
+  abbrev inRows : Facts (lumaPlane l .rows) (rowSide l c) (c .row) rows
   inRows = row-facts ctb 1 1 whole down
 
   -- the sample at (x, y) of the piece

@@ -5,7 +5,7 @@ ghost use lib.ListN.{length, getD};
 ghost use Rattle.alf_spec.specs.Lists.{painted};
 ghost use Rattle.alf_spec.specs.Input.{Input};
 ghost use Rattle.alf_spec.specs.Geometry.{lumaPlane};
-ghost use Rattle.alf_spec.specs.Boundary.{columnDisabled, rowDisabled};
+ghost use Rattle.alf_spec.specs.Boundary.{columnSide, rowSide};
 ghost use Rattle.alf_spec.specs.Luma.{lumaSample};
 ghost use Rattle.alf_spec.specs.Process.{atIndex};
 ghost use Rattle.alf_spec.specs.declared.Ctb.{Ctb};
@@ -201,8 +201,8 @@ pub fn filter_piece(
     requires { ⌜ (LumaWork picture grid (now luma) (now filters) (now places) (length (now copy)) (length (now differences)) (now taps) (length (now output)))
         × (BlockPiece (picture .width) columns) × (BlockPiece (picture .height) rows) ⌝ }
     ensures { λ _. ⌜ ((i : Input) (c : Ctb) → CtbOf (i .layout) picture c sides → i .luma ≡ now (luma .entry) → LumaFilters i c (now (filters .entry))
-        → PieceOf (lumaPlane (i .layout) .columns) (columnDisabled (i .layout) c) (c .column) columns
-        → PieceOf (lumaPlane (i .layout) .rows) (rowDisabled (i .layout) c) (c .row) rows
+        → PieceOf (lumaPlane (i .layout) .columns) (columnSide (i .layout) c) (c .column) columns
+        → PieceOf (lumaPlane (i .layout) .rows) (rowSide (i .layout) c) (c .row) rows
         → now (output .exit) ≡ painted (now (output .entry)) (inRect (picture .width) (columns .start) (columns .end) (rows .start) (rows .end))
         (atIndex (lumaPlane (i .layout)) (lumaSample i))) × (TapNumbers (now (taps .exit))) ⌝ }
 {

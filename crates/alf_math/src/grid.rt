@@ -1,7 +1,7 @@
-// The CTB grid of a picture, and how its chroma planes lie on it.
+// The CTB grid of a picture, how its chroma planes lie on it, and the place before another.
 ghost use mathlib.Core.Path.{_≡_};
 ghost use mathlib.Core.Bool.{true};
-ghost use Prim.Native.Nat.{_+_, _-_, _/_, _^_, _≤_, _<_};
+ghost use Prim.Native.Nat.{pred, _+_, _-_, _/_, _^_, _≤_, _<_};
 ghost use Rattle.alf_spec.specs.Geometry.{subWidth, subHeight};
 ghost use Rattle.alf_spec.specs.Faults.{pictureSizeValid, ctbSizeValid};
 ghost use Rattle.alf_math.specs.Grids.{GridOf};
@@ -36,6 +36,13 @@ fn along(samples: u32, ctb: u32) -> u32
     ensures { λ r. ⌜ r ≡ (samples + (ctb - 1)) / ctb ⌝ }
 {
     (samples + (ctb - 1)) / ctb
+}
+
+// The place before n along an axis, or n itself at 0.
+pub fn previous(n: u32) -> u32
+    ensures { λ r. ⌜ r ≡ pred n ⌝ }
+{
+    if 0 < n { n - 1 } else { n }
 }
 
 // CtbSizeY, PicWidthInCtbsY and PicHeightInCtbsY

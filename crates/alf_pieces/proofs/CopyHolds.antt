@@ -10,7 +10,7 @@ use Rattle.alf_spec.specs.declared.Sides.{Sides}
 use Rattle.alf_spec.specs.Lists.{painted}
 use Rattle.alf_spec.specs.Input.{Layout}
 use Rattle.alf_spec.specs.Geometry.{planeOf, samples}
-use Rattle.alf_spec.specs.Boundary.{columnDisabled, rowDisabled}
+use Rattle.alf_spec.specs.Boundary.{columnSide, rowSide}
 use Rattle.alf_spec.specs.Padding.{read}
 use Rattle.alf_spec.proofs.IsolatedRegions.Ratios.{Ratio}
 use Rattle.alf_pieces.specs.declared.pieces.Piece.{Piece}
@@ -25,8 +25,8 @@ use Rattle.alf_pieces.proofs.CopySamples.{copy-at}
 -- a plane of an accepted picture with these ratios to luma, and the copy of a piece of it
 module _ {l : Layout} {p : Picture} {c : Ctb} {s : Sides} (ctb : CtbOf l p c s) (columnRatio rowRatio : ℕ)
     (acrossRatio : Ratio columnRatio) (downRatio : Ratio rowRatio) {columns rows : Piece}
-    (across : PieceOf (planeOf l columnRatio rowRatio .columns) (columnDisabled l c) (c .column) columns)
-    (down : PieceOf (planeOf l columnRatio rowRatio .rows) (rowDisabled l c) (c .row) rows)
+    (across : PieceOf (planeOf l columnRatio rowRatio .columns) (columnSide l c) (c .column) columns)
+    (down : PieceOf (planeOf l columnRatio rowRatio .rows) (rowSide l c) (c .row) rows)
     (plane copy copy0 : List ℕ) {width : ℕ} (wide : samples (planeOf l columnRatio rowRatio .columns) ≡ width)
     (copies : copy ≡ painted copy0 (between 0 (copyLength columns rows)) (copyAt columns rows s plane width))
     (room : copyLength columns rows ≤ length copy0) where

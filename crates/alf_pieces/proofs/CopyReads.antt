@@ -9,11 +9,12 @@ use native.Mathlib.Omega.{arith}
 use lib.Dec.{leb, ltb}
 use lib.ListN.{getD}
 use borrow.Author.Tests.{ltb-true, ltb-false, leb-true, leb-false, lt-leb}
+use Rattle.alf_spec.specs.declared.ClipCause.{ClipCause}
 use Rattle.alf_spec.specs.declared.Ctb.{Ctb}
 use Rattle.alf_spec.specs.declared.Sides.{Sides}
 use Rattle.alf_spec.specs.Input.{Layout}
 use Rattle.alf_spec.specs.Geometry.{Side, before, after, Axis, Plane, planeOf, samples, lumaPosition, indexOf, ctbAt}
-use Rattle.alf_spec.specs.Boundary.{columnDisabled, rowDisabled, cornerDisabled, clipPosition}
+use Rattle.alf_spec.specs.Boundary.{columnSide, rowSide, cornerDisabled, clipPosition}
 use Rattle.alf_spec.specs.Padding.{isNone, clamped, ctbEnd, pastCtb, columnClip, rowClip, clampedColumn, clampedRow, pastCorner, paddedColumn, paddedRow, read}
 use Rattle.alf_spec.proofs.Tests.{both, and-same}
 use Rattle.alf_spec.proofs.Axes.{ctb-of}
@@ -30,7 +31,7 @@ ratio-positive : (r n k : ℕ) → k < n / r → 0 < r
 ratio-positive zero n k h = absurd (not-suc-le-zero (rw div-zero at h))
 ratio-positive (suc r) n k h = zero-lt-suc r
 
-module _ (a : Axis) (disabled : Side → Bool) (n : ℕ) (piece : Piece) (facts : Facts a disabled n piece) (x u : ℕ) (in-piece : InPiece a piece x u) where
+module _ (a : Axis) (side : Side → ClipCause) (n : ℕ) (piece : Piece) (facts : Facts a side n piece) (x u : ℕ) (in-piece : InPiece a piece x u) where
   -- a sample of a piece of a CTB lies in that CTB
   ctb-is : lumaPosition a x / a .ctb ≡ n
   ctb-is =
@@ -41,7 +42,7 @@ module _ (a : Axis) (disabled : Side → Bool) (n : ℕ) (piece : Piece) (facts 
       (omega (arith, facts .upto, mul-le-mul-right (a .ratio) (in-piece .high)))
 
   -- what `Facts` says of the sample's clip positions, wherever they come from
-  module _ (clip : Side → Option ℕ) (e : clip ≡ clipPosition a (lumaPosition a x) disabled) where
+  module _ (clip : Side → Option ℕ) (e : clip ≡ clipPosition a (lumaPosition a x) side) where
     clamped-is : clamped a clip u ≡ held (piece .lowest) (piece .limit) u
     clamped-is = rw e (facts .reads x u in-piece)
 
@@ -63,7 +64,7 @@ by-axis true false c d true = refl
 by-axis true false c d false = refl
 by-axis false b c d e = sym (and-false (e && (b && d)))
 
--- past a corner across which filtering is disabled, a read is held to the piece's own columns: what lies past them moves to the outermost
+-- past a corner across which filtering is side, a read is held to the piece's own columns: what lies past them moves to the outermost
 -- column, and the rest stays
 module _ (n : ℕ) (piece : Piece) (numbers : PieceIn n piece) (p : ℕ) (ends : Side → ℕ)
     (edge : (d : Side) → pastPiece d piece (held (piece .lowest) (piece .limit) p) ≡ true → ends d ≡ outer d piece) where
@@ -98,8 +99,8 @@ module _ (n : ℕ) (piece : Piece) (numbers : PieceIn n piece) (p : ℕ) (ends :
 
 -- the plane of a layout with these ratios to luma, and a piece of its columns and one of its rows, both of the CTB c
 module _ (l : Layout) (c : Ctb) (s : Sides) (sides : SidesOf l c s) (columnRatio rowRatio : ℕ) (columns rows : Piece)
-    (across : Facts (planeOf l columnRatio rowRatio .columns) (columnDisabled l c) (c .column) columns)
-    (down : Facts (planeOf l columnRatio rowRatio .rows) (rowDisabled l c) (c .row) rows) where
+    (across : Facts (planeOf l columnRatio rowRatio .columns) (columnSide l c) (c .column) columns)
+    (down : Facts (planeOf l columnRatio rowRatio .rows) (rowSide l c) (c .row) rows) where
   -- the plane
   abbrev g : Plane
   g = planeOf l columnRatio rowRatio
@@ -113,13 +114,13 @@ module _ (l : Layout) (c : Ctb) (s : Sides) (sides : SidesOf l c s) (columnRatio
     pub own-ctb : ctbAt (planeOf l columnRatio rowRatio) x y ≡ c
     own-ctb = rw (ctb-is (g .columns) _ (c .column) columns across x p in-columns, ctb-is (g .rows) _ (c .row) rows down y q in-rows)
 
-    column-clip : columnClip l g x y ≡ clipPosition (g .columns) (lumaPosition (g .columns) x) (columnDisabled l c)
+    column-clip : columnClip l g x y ≡ clipPosition (g .columns) (lumaPosition (g .columns) x) (columnSide l c)
     unfolding columnClip
-    column-clip = ap (λ (c : Ctb). clipPosition (g .columns) (lumaPosition (g .columns) x) (columnDisabled l c)) own-ctb
+    column-clip = ap (λ (c : Ctb). clipPosition (g .columns) (lumaPosition (g .columns) x) (columnSide l c)) own-ctb
 
-    row-clip : rowClip l g x y ≡ clipPosition (g .rows) (lumaPosition (g .rows) y) (rowDisabled l c)
+    row-clip : rowClip l g x y ≡ clipPosition (g .rows) (lumaPosition (g .rows) y) (rowSide l c)
     unfolding rowClip
-    row-clip = ap (λ (c : Ctb). clipPosition (g .rows) (lumaPosition (g .rows) y) (rowDisabled l c)) own-ctb
+    row-clip = ap (λ (c : Ctb). clipPosition (g .rows) (lumaPosition (g .rows) y) (rowSide l c)) own-ctb
 
     corner-is : (d : Side)
         → pastCorner l g x y p q d

@@ -9,7 +9,7 @@ use Rattle.alf_spec.specs.declared.Picture.{Picture}
 use Rattle.alf_spec.specs.declared.Sides.{Sides}
 use Rattle.alf_spec.specs.Input.{Layout}
 use Rattle.alf_spec.specs.Geometry.{ctbSize, planeOf}
-use Rattle.alf_spec.specs.Boundary.{columnDisabled, rowDisabled}
+use Rattle.alf_spec.specs.Boundary.{columnSide, rowSide}
 use Rattle.alf_spec.specs.Faults.{sizeValid, ctbSizeValid, virtualListValid}
 use Rattle.alf_spec.proofs.Accepted.{Accepted, sizes-valid, lists-valid}
 use Rattle.alf_spec.proofs.Axes.{Regular, regular}
@@ -50,13 +50,13 @@ module _ {l : Layout} {p : Picture} {c : Ctb} {s : Sides} (ctb : CtbOf l p c s) 
     unfolding planeOf
     regular-down = regular (l .picture) log2 (l .picture .height) (l .virtualRows) true rowRatio (sizes .1) (boundaries .1)
 
-    pub column-facts : Ratio columnRatio → {columns : Piece} → PieceOf (planeOf l columnRatio rowRatio .columns) (columnDisabled l c) (c .column) columns
-        → Facts (planeOf l columnRatio rowRatio .columns) (columnDisabled l c) (c .column) columns
+    pub column-facts : Ratio columnRatio → {columns : Piece} → PieceOf (planeOf l columnRatio rowRatio .columns) (columnSide l c) (c .column) columns
+        → Facts (planeOf l columnRatio rowRatio .columns) (columnSide l c) (c .column) columns
     unfolding planeOf
     column-facts ratio h = piece-facts _ regular-across ratio small _ _ _ h
 
-    pub row-facts : Ratio rowRatio → {rows : Piece} → PieceOf (planeOf l columnRatio rowRatio .rows) (rowDisabled l c) (c .row) rows
-        → Facts (planeOf l columnRatio rowRatio .rows) (rowDisabled l c) (c .row) rows
+    pub row-facts : Ratio rowRatio → {rows : Piece} → PieceOf (planeOf l columnRatio rowRatio .rows) (rowSide l c) (c .row) rows
+        → Facts (planeOf l columnRatio rowRatio .rows) (rowSide l c) (c .row) rows
     unfolding planeOf
     row-facts ratio h = piece-facts _ regular-down ratio small _ _ _ h
 
@@ -64,12 +64,12 @@ module _ {l : Layout} {p : Picture} {c : Ctb} {s : Sides} (ctb : CtbOf l p c s) 
     module _ {g : Grid} (grid : GridOf p g) where
       pub column-piece : {list : List ℕ} {columns : Piece} → l .virtualColumns ≡ list
           → PieceOf (axisOf (p .width) (g .ctb) list false columnRatio) (either (s .left) (s .right)) (c .column) columns
-          → PieceOf (planeOf l columnRatio rowRatio .columns) (columnDisabled l c) (c .column) columns
+          → PieceOf (planeOf l columnRatio rowRatio .columns) (columnSide l c) (c .column) columns
       unfolding planeOf
       column-piece e h = same-piece (rw (grid .ctb, ctb .picture, e)) (ctb .sides .left) (ctb .sides .right) h
 
       pub row-piece : {list : List ℕ} {rows : Piece} → l .virtualRows ≡ list
           → PieceOf (axisOf (p .height) (g .ctb) list true rowRatio) (either (s .top) (s .bottom)) (c .row) rows
-          → PieceOf (planeOf l columnRatio rowRatio .rows) (rowDisabled l c) (c .row) rows
+          → PieceOf (planeOf l columnRatio rowRatio .rows) (rowSide l c) (c .row) rows
       unfolding planeOf
       row-piece e h = same-piece (rw (grid .ctb, ctb .picture, e)) (ctb .sides .top) (ctb .sides .bottom) h

@@ -1,7 +1,6 @@
 -- Laws that the proofs of this crate, and of those above it, cite.
-pub mod NextBoundary
-pub mod BoundaryScan
 pub mod PieceEnds
+pub mod PieceScan
 pub mod PieceClips
 pub mod PieceReads
 pub mod PieceFacts

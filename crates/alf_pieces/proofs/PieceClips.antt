@@ -1,24 +1,22 @@
--- The clip positions of a sample of a piece are the piece's ends, where those are cut; an end that is cut and no clip position is out of reach.
--- In luma positions. Assumes nothing.
-use mathlib.Core.Path.{_≡_, refl, sym, _∙_, subst}
+-- The clip positions of a sample of a piece are the piece's ends, where its outermost sample on that side has one; where that has one and the sample has
+-- none, the end is out of reach. In luma positions. Assumes nothing.
+use mathlib.Core.Path.{_≡_, sym, ap, _∙_, subst}
 use mathlib.Core.Logic.{_⊎_, inl, inr, ⊎-elim, by-cases}
-use mathlib.Core.Bool.{Bool, true, false, not, _||_, true≢false}
+use mathlib.Core.Bool.{true, true≢false}
 use mathlib.Core.Option.{Option, some, none}
-use Prim.Native.Nat.{ℕ, _/_, _≤_, _<_}
+use Prim.Native.Nat.{ℕ, pred, _+_, _-_, _*_, _/_, _≤_, _<_}
 use native.Mathlib.Decide.{decLe}
 use native.Mathlib.Omega.{arith}
-use lib.Dec.{eqb}
-use borrow.Author.Tests.{eqb-true, eq-eqb, not-false}
-use Rattle.alf_spec.specs.Lists.{elem}
+use Rattle.alf_spec.specs.declared.ClipCause.{ClipCause}
 use Rattle.alf_spec.specs.Geometry.{Side, before, after, Axis}
 use Rattle.alf_spec.specs.Boundary.{clipPosition}
-use Rattle.alf_spec.proofs.Tests.{neither}
-use Rattle.alf_spec.proofs.Lists.{mem-elem, elem-mem}
-use Rattle.alf_spec.proofs.Axes.{Regular}
+use Rattle.alf_spec.specs.Padding.{isNone}
+use Rattle.alf_spec.proofs.Lists.{elem-mem}
+use Rattle.alf_spec.proofs.Axes.{Regular, ctb-of}
 use Rattle.alf_spec.proofs.IsolatedRegions.Reach.{Reach}
 use Rattle.alf_spec.proofs.IsolatedRegions.PastCtb.{Between}
 use Rattle.alf_spec.proofs.IsolatedRegions.ClipPositions.{Ends, stops, runs, Near, bound, Rule, line-rule, virtual-rule, side-rule, Found, Clear, clip-found}
-use Rattle.alf_pieces.specs.Pieces.{ctbSide, ctbLimit, cutAt, Begins, at-side, at-boundary, at-line}
+use Rattle.alf_pieces.specs.Pieces.{ctbLimit, Begins, at-side, at-boundary, at-line}
 use Rattle.alf_pieces.proofs.PieceEnds.{Inner, Span, start4, end4}
 
 -- the end of a piece on that side
@@ -26,110 +24,137 @@ abbrev pub tip : Side → ℕ → ℕ → ℕ
 tip before lo hi = lo
 tip after lo hi = hi
 
--- the clip position of x on that side, and whether the piece's end b is cut, for a neighbour at u
-pub data Meets (d : Side) (b x u : ℕ) : Option ℕ → Bool → Type 0 where
-  at-end : Meets d b x u (some b) true
-  open-end : Meets d b x u none false
-  far-end : ¬ Between d x b u → Meets d b x u none true
+-- and its outermost sample there
+abbrev pub outermost : Side → ℕ → ℕ → ℕ
+outermost before lo hi = lo
+outermost after lo hi = pred hi
 
--- ---- the rules at a boundary
+last-in : {lo hi : ℕ} → lo < hi → (lo ≤ pred hi) × (pred hi < hi)
+last-in h = omega arith
 
-module _ (a : Axis) (ok : Regular a) (disabled : Side → Bool) (x : ℕ) where
-  -- an end that is not cut
-  abbrev Open : Side → ℕ → Type 0
-  Open d b = (b ≡ bound a d x) × (elem b (a .virtualBoundaries) ≡ false) × (disabled d ≡ false)
+near-last : {lo hi : ℕ} → lo < hi → (pred hi < hi) × (hi ≤ pred hi + 4)
+near-last h = omega arith
 
-  bound-side : (d : Side) → ctbSide a d (x / a .ctb) ≡ bound a d x
-  bound-side before = refl
-  bound-side after = refl
+-- a clip position that is the piece's end b, or none
+pub data AtTip (b : ℕ) : Option ℕ → Type 0 where
+  cut : AtTip b (some b)
+  uncut : AtTip b none
 
-  pub open-of : (d : Side) (b : ℕ) → cutAt a disabled (x / a .ctb) d b ≡ false → Open d b
-  unfolding cutAt
-  open-of d b q =
-      let h = neither (not (eqb b (ctbSide a d (x / a .ctb)))) _ q in
-      let k = neither (elem b (a .virtualBoundaries)) (disabled d) (h .1) in
-      (eqb-true b (ctbSide a d (x / a .ctb)) (not-false (eqb b (ctbSide a d (x / a .ctb))) (h .0)) ∙ bound-side d, k .0, k .1)
+-- the clip positions, on one side, of a sample x of the piece with the end b there, and of the outermost sample, for a neighbour of x at u
+pub data Meets (d : Side) (b x u : ℕ) : Option ℕ → Option ℕ → Type 0 where
+  at-end : Meets d b x u (some b) (some b)
+  open-end : Meets d b x u none none
+  far-end : ¬ Between d x b u → Meets d b x u none (some b)
 
-  -- no rule finds it
-  opposed : (d : Side) (b : ℕ) → Open d b → Rule a x disabled d b → ⊥
-  opposed before b o (line-rule _ e) = omega (arith, o .0, ok .big)
-  opposed after b o (line-rule _ e) = omega (arith, o .0, ok .big)
-  opposed d b o (virtual-rule m) = true≢false (sym (mem-elem b (a .virtualBoundaries) m) ∙ o .1)
-  opposed d b o (side-rule _ t) = true≢false (sym t ∙ o .2)
+module _ (a : Axis) (ok : Regular a) (side : Side → ClipCause) (q lo hi : ℕ) (s : Span a q lo hi) where
+  -- a sample of the piece
+  abbrev Within : ℕ → Type 0
+  Within x = (lo ≤ x) × (x < hi)
 
-  -- the CTB's side, where it is cut
-  side-cut : (d : Side) (b : ℕ) → b ≡ bound a d x → cutAt a disabled (x / a .ctb) d b ≡ true → Rule a x disabled d b
-  unfolding cutAt
-  side-cut d b e q = by (elem b (a .virtualBoundaries)) refl (rw (eq-eqb b (ctbSide a d (x / a .ctb)) (e ∙ sym (bound-side d))) at q)
-    where
-      by : (t : Bool) → elem b (a .virtualBoundaries) ≡ t → (t || disabled d) ≡ true → Rule a x disabled d b
-      by true m _ = virtual-rule (elem-mem b (a .virtualBoundaries) m)
-      by false _ t = side-rule e t
+  place : (x : ℕ) → Within x → x / a .ctb ≡ q
+  place x w = ctb-of a q x (omega (arith, s .from)) (omega (arith, s .upto))
+
+  outer-within : (d : Side) → Within (outermost d lo hi)
+  outer-within before = omega (arith, s .filled)
+  outer-within after = last-in (s .filled)
+
+  -- ---- the rules at its samples
+
+  -- they are the same for all of them
+  same-rule : (d : Side) (e x y : ℕ) → Within x → Within y → Rule a x side d e → Rule a y side d e
+  same-rule d e x y w v (line-rule l at) = line-rule l (at ∙ ap (λ (p : ℕ). p * a .ctb + (a .ctb - 4)) (place x w ∙ sym (place y v)))
+  same-rule d e x y w v (virtual-rule m) = virtual-rule m
+  same-rule before e x y w v (side-rule at t) = side-rule (at ∙ ap (λ (p : ℕ). p * a .ctb) (place x w ∙ sym (place y v))) t
+  same-rule after e x y w v (side-rule at t) = side-rule (at ∙ ap (λ (p : ℕ). p * a .ctb + a .ctb) (place x w ∙ sym (place y v))) t
 
   -- where no rule finds a clip position, none is near
-  clash : (d : Side) (b : ℕ) → Clear a x disabled d → Near d x b → Rule a x disabled d b → ⊥
-  clash d b c n (line-rule l e) = c .noLine l (subst (Near d x) e n)
-  clash d b c n (virtual-rule m) = c .free .0 b m n
-  clash d b c n (side-rule e t) = true≢false (sym t ∙ c .free .1 (subst (Near d x) e n))
+  clash : (d : Side) (b x : ℕ) → Clear a x side d → Near d x b → Rule a x side d b → ⊥
+  clash d b x c n (line-rule l e) = c .noLine l (subst (Near d x) e n)
+  clash d b x c n (virtual-rule m) = c .free .0 b m n
+  clash d b x c n (side-rule e t) = true≢false (sym t ∙ c .free .1 (subst (Near d x) e n))
 
-  inner-rule : (d : Side) (b : ℕ) → Inner a (x / a .ctb) b → Rule a x disabled d b
-  inner-rule d b (inl l) = line-rule (l .0) (l .1)
-  inner-rule d b (inr m) = virtual-rule m
-
-  -- ---- a sample x of a piece
-
-  module _ (lo hi : ℕ) (s : Span a (x / a .ctb) lo hi) (low : lo ≤ x) (high : x < hi) where
-    side-outside : (d : Side) (e : ℕ) → e ≡ bound a d x → (e ≤ lo) ⊎ (hi ≤ e)
-    side-outside before e q = inl (omega (arith, s .from))
-    side-outside after e q = inr (omega (arith, s .upto))
-
-    inner-outside : (e : ℕ) → Inner a (x / a .ctb) e → (e ≤ lo) ⊎ (hi ≤ e)
+  module _ (x : ℕ) (w : Within x) where
+    inner-outside : (e : ℕ) → Inner a q e → (e ≤ lo) ⊎ (hi ≤ e)
     inner-outside e i = by-cases (decLe e lo) (λ l. inl l) (λ l. inr (s .whole e i (omega arith)))
 
     -- a clip position does not lie within the piece
-    outside : (d : Side) (e : ℕ) → Rule a x disabled d e → (e ≤ lo) ⊎ (hi ≤ e)
-    outside d e (line-rule l q) = inner-outside e (inl (l, q))
+    outside : (d : Side) (e : ℕ) → Rule a x side d e → (e ≤ lo) ⊎ (hi ≤ e)
+    outside d e (line-rule l at) = inner-outside e (inl (l, at ∙ ap (λ (p : ℕ). p * a .ctb + (a .ctb - 4)) (place x w)))
     outside d e (virtual-rule m) = inner-outside e (inr m)
-    outside d e (side-rule q _) = side-outside d e q
+    outside before e (side-rule at _) = inl (omega (arith, at ∙ ap (λ (p : ℕ). p * a .ctb) (place x w), s .from))
+    outside after e (side-rule at _) = inr (omega (arith, at ∙ ap (λ (p : ℕ). p * a .ctb + a .ctb) (place x w), s .upto))
 
     -- so it is the end
-    is-tip : (d : Side) (e : ℕ) → Found a x disabled d e → tip d lo hi ≡ e
+    is-tip : (d : Side) (e : ℕ) → Found a x side d e → e ≡ tip d lo hi
     is-tip before e f =
-        ⊎-elim (λ l. omega (arith, f .first, start4 a ok (x / a .ctb) lo hi s)) (λ l. absurd (omega (arith, f .first))) (outside before e (f .rule))
+        ⊎-elim (λ l. omega (arith, f .first, start4 a ok q lo hi s)) (λ l. absurd (omega (arith, f .first))) (outside before e (f .rule))
     is-tip after e f =
-        ⊎-elim (λ l. absurd (omega (arith, f .first))) (λ l. omega (arith, f .first, end4 a ok (x / a .ctb) lo hi s)) (outside after e (f .rule))
+        ⊎-elim (λ l. absurd (omega (arith, f .first))) (λ l. omega (arith, f .first, end4 a ok q lo hi s)) (outside after e (f .rule))
 
-    -- an end that is cut is where a rule finds a clip position, or the picture's
-    cut-rule : (d : Side) → cutAt a disabled (x / a .ctb) d (tip d lo hi) ≡ true → Rule a x disabled d (tip d lo hi) ⊎ (tip d lo hi ≡ a .size)
-    cut-rule before q = inl (by (s .begins))
-      where
-        by : Begins a (x / a .ctb) lo → Rule a x disabled before lo
-        by (at-side e) = side-cut before lo e q
-        by (at-boundary m) = virtual-rule (elem-mem lo (a .virtualBoundaries) m)
-        by (at-line l e) = line-rule l e
-    cut-rule after q =
-        ⊎-elim (λ (e : hi ≡ ctbLimit a (x / a .ctb)).
-        by-cases (decLe (bound a after x) (a .size)) (λ l. inl (side-cut after hi (omega arith) q)) (λ l. inr (omega arith)))
-        (λ i. inl (inner-rule after hi i)) (s .ends)
+    tip-rule : (d : Side) (e : ℕ) → Found a x side d e → Rule a x side d (tip d lo hi)
+    tip-rule d e f = subst (Rule a x side d) (is-tip d e f) (f .rule)
 
-    module _ (u : ℕ) (r : Reach x u) (inPicture : u < a .size) where
-      near-tip : (d : Side) → Between d x (tip d lo hi) u → Near d x (tip d lo hi)
-      near-tip before h = (h .0, r .before lo (start4 a ok (x / a .ctb) lo hi s) (h .1) (h .0))
-      near-tip after h = (h .0, r .after hi (end4 a ok (x / a .ctb) lo hi s) (h .0) (h .1))
+  -- ---- its outermost sample
 
-      -- nothing in the picture lies past its end
-      not-past : (d : Side) → tip d lo hi ≡ a .size → ¬ Between d x (tip d lo hi) u
-      not-past before e h = omega (arith, s .filled, s .upto)
-      not-past after e h = omega arith
+  near-outer : (d : Side) → Near d (outermost d lo hi) (tip d lo hi)
+  near-outer before = omega arith
+  near-outer after = near-last (s .filled)
 
-      meet : (d : Side) (o : Option ℕ) (c : Bool) → Ends (Found a x disabled d) (Clear a x disabled d) o
-          → cutAt a disabled (x / a .ctb) d (tip d lo hi) ≡ c → Meets d (tip d lo hi) x u o c
-      meet d (some e) true (stops f) q = subst (λ (b : ℕ). Meets d (tip d lo hi) x u (some b) true) (is-tip d e f) at-end
-      meet d (some e) false (stops f) q =
-          absurd (opposed d (tip d lo hi) (open-of d (tip d lo hi) q) (subst (Rule a x disabled d) (sym (is-tip d e f)) (f .rule)))
-      meet d none true (runs n) q =
-          far-end (λ h. ⊎-elim (λ rule. clash d (tip d lo hi) n (near-tip d h) rule) (λ rim. not-past d rim h) (cut-rule d q))
-      meet d none false (runs n) q = open-end
+  pub at-tip : (d : Side) → AtTip (tip d lo hi) (clipPosition a (outermost d lo hi) side d)
+  at-tip d = by _ (clip-found a ok (outermost d lo hi) side d)
+    where
+      by : (o : Option ℕ) → Ends (Found a (outermost d lo hi) side d) (Clear a (outermost d lo hi) side d) o → AtTip (tip d lo hi) o
+      by _ (stops f) = subst (λ (e : ℕ). AtTip (tip d lo hi) (some e)) (sym (is-tip (outermost d lo hi) (outer-within d) d _ f)) cut
+      by _ (runs n) = uncut
 
-      pub meets : (d : Side) → Meets d (tip d lo hi) x u (clipPosition a x disabled d) (cutAt a disabled (x / a .ctb) d (tip d lo hi))
-      meets d = meet d _ _ (clip-found a ok x disabled d) refl
+  -- where it has no clip position, the piece ends with the CTB, or with the picture
+  pub open-bound : (d : Side) → isNone (clipPosition a (outermost d lo hi) side d) ≡ true → tip d lo hi < a .size → tip d lo hi ≡ bound a d lo
+  open-bound d none-there inPicture = by _ (clip-found a ok (outermost d lo hi) side d) none-there
+    where
+      start : lo / a .ctb ≡ q
+      start = place lo (omega (arith, s .filled))
+
+      no-inner : (d : Side) → Clear a (outermost d lo hi) side d → Inner a q (tip d lo hi) → ⊥
+      no-inner d n (inl l) =
+          clash d (tip d lo hi) (outermost d lo hi) n (near-outer d)
+          (line-rule (l .0) (l .1 ∙ ap (λ (p : ℕ). p * a .ctb + (a .ctb - 4)) (sym (place (outermost d lo hi) (outer-within d)))))
+      no-inner d n (inr m) = clash d (tip d lo hi) (outermost d lo hi) n (near-outer d) (virtual-rule m)
+
+      begin : Clear a lo side before → Begins a q lo → lo ≡ bound a before lo
+      begin n (at-side e) = e ∙ ap (λ (p : ℕ). p * a .ctb) (sym start)
+      begin n (at-boundary m) = absurd (no-inner before n (inr (elem-mem lo (a .virtualBoundaries) m)))
+      begin n (at-line l e) = absurd (no-inner before n (inl (l, e)))
+
+      ended : (d : Side) → tip d lo hi < a .size → Clear a (outermost d lo hi) side d → tip d lo hi ≡ bound a d lo
+      ended before h n = begin n (s .begins)
+      ended after h n =
+          ⊎-elim (λ (e : hi ≡ ctbLimit a q). let end : hi ≡ q * a .ctb + a .ctb = omega arith in end ∙ ap (λ (p : ℕ). p * a .ctb + a .ctb) (sym start))
+          (λ i. absurd (no-inner after n i)) (s .ends)
+
+      by : (o : Option ℕ) → Ends (Found a (outermost d lo hi) side d) (Clear a (outermost d lo hi) side d) o → isNone o ≡ true → tip d lo hi ≡ bound a d lo
+      by _ (stops f) e = absurd (true≢false (sym e))
+      by _ (runs n) e = ended d inPicture n
+
+  -- ---- a sample x of the piece, and a neighbour of it at u
+
+  module _ (x : ℕ) (w : Within x) (u : ℕ) (r : Reach x u) where
+    near-tip : (d : Side) → Between d x (tip d lo hi) u → Near d x (tip d lo hi)
+    near-tip before h = (h .0, r .before lo (start4 a ok q lo hi s) (h .1) (h .0))
+    near-tip after h = (h .0, r .after hi (end4 a ok q lo hi s) (h .0) (h .1))
+
+    meet : (d : Side) (o o′ : Option ℕ) → Ends (Found a x side d) (Clear a x side d) o
+        → Ends (Found a (outermost d lo hi) side d) (Clear a (outermost d lo hi) side d) o′ → Meets d (tip d lo hi) x u o o′
+    meet d _ _ (stops {e} f) (stops {e = e′} g) =
+        let p = is-tip x w d e f in
+        let p′ = is-tip (outermost d lo hi) (outer-within d) d e′ g in
+        rw (p, p′) at-end
+    meet d _ _ (stops {e} f) (runs n) =
+        absurd (clash d (tip d lo hi) (outermost d lo hi) n (near-outer d) (same-rule d _ x _ w (outer-within d) (tip-rule x w d e f)))
+    meet d _ _ (runs n) (stops {e} g) =
+        let p = is-tip (outermost d lo hi) (outer-within d) d e g in
+        rw p (far-end (λ h. clash d (tip d lo hi) x n (near-tip d h)
+        (same-rule d _ (outermost d lo hi) x (outer-within d) w (tip-rule (outermost d lo hi) (outer-within d) d e g))))
+    meet d _ _ (runs n) (runs m) = open-end
+
+    pub meets : (d : Side) → Meets d (tip d lo hi) x u (clipPosition a x side d) (clipPosition a (outermost d lo hi) side d)
+    meets d = meet d _ _ (clip-found a ok x side d) (clip-found a ok (outermost d lo hi) side d)

@@ -1,17 +1,21 @@
 -- Where a piece of a CTB begins and ends, in luma positions: at multiples of 4, with no virtual boundary and no line-buffer boundary between.
 -- Assumes nothing.
-use mathlib.Core.Path.{_≡_, refl, sym, _∙_}
-use mathlib.Core.Logic.{_⊎_, inl, inr, ⊎-elim}
-use mathlib.Core.Bool.{Bool, true, false, cond, true≢false}
+use mathlib.Core.Path.{_≡_, sym, ap, _∙_}
+use mathlib.Core.Logic.{_⊎_, inl, inr, ⊎-elim, by-cases}
+use mathlib.Core.Bool.{true, cond}
 use mathlib.Core.List.{List·Memᴰ}
-use Prim.Native.Nat.{ℕ, _+_, _*_, _%_, _≤_, _<_}
+use mathlib.Core.Option.{Option}
+use Prim.Native.Nat.{ℕ, zero, suc, _+_, _-_, _*_, _/_, _%_, _≤_, _<_}
+use native.Mathlib.Decide.{decLe}
 use native.Mathlib.Omega.{arith}
-use Rattle.alf_spec.specs.Geometry.{before, Axis}
+use Rattle.alf_spec.specs.declared.ClipCause.{ClipCause}
+use Rattle.alf_spec.specs.Geometry.{Side, before, after, Axis}
+use Rattle.alf_spec.specs.Boundary.{linePosition}
+use Rattle.alf_spec.specs.Padding.{isNone}
 use Rattle.alf_spec.proofs.Lists.{mem-elem, elem-mem}
 use Rattle.alf_spec.proofs.Axes.{Regular, ctb-of}
-use Rattle.alf_spec.proofs.IsolatedRegions.ClipPositions.{bound4}
-use Rattle.alf_pieces.specs.Pieces.{nearer, ctbLimit, ctbLine, pieceEnd, Begins, at-side, at-boundary, at-line}
-use Rattle.alf_pieces.proofs.NextBoundary.{Least, least-or, nearer-least, next-least}
+use Rattle.alf_spec.proofs.IsolatedRegions.ClipPositions.{Ends, stops, runs, bound4, Rule, line-rule, virtual-rule, side-rule, Found, Clear, clip-found}
+use Rattle.alf_pieces.specs.Pieces.{ctbLimit, ctbLine, runEnd, pieceEnd, Begins, at-side, at-boundary, at-line}
 
 -- where a piece may end within the CTB at place q: at its line-buffer boundary, at a virtual boundary
 abbrev pub Inner : Axis → ℕ → ℕ → Type 0
@@ -26,33 +30,12 @@ pub record Span (a : Axis) (q lo hi : ℕ) : Type 0 where
   pub whole : (b : ℕ) → Inner a q b → lo < b → hi ≤ b
   pub ends : (hi ≡ ctbLimit a q) ⊎ Inner a q hi
 
-module _ (a : Axis) (q x : ℕ) (inside : x < ctbLimit a q) where
-  line-least : (t : Bool) → a .hasLine ≡ t
-      → Least (λ b. (a .hasLine ≡ true) × (b ≡ ctbLine a q)) x (ctbLimit a q) (cond t (nearer x (ctbLimit a q) (ctbLine a q)) (ctbLimit a q))
-  line-least true e =
-      let l = nearer-least x (ctbLimit a q) (ctbLine a q) inside in
-      record { more = l .more; most = l .most; none = λ b m. l .none b (m .1); from = ⊎-elim (λ g. inl g) (λ g. inr (e, g)) (l .from) }
-  line-least false e = record { more = inside; most = omega arith; none = λ b m. absurd (true≢false (sym (m .0) ∙ e)); from = inl refl }
+-- ---- multiples of 4
 
-  end-least : Least (Inner a q) x (ctbLimit a q) (pieceEnd a q x)
-  unfolding pieceEnd
-  end-least = let l = line-least (a .hasLine) refl in least-or l (next-least (a .virtualBoundaries) x _ (l .more))
-
-  pub span : q * a .ctb ≤ x → Begins a q x → Span a q x (pieceEnd a q x)
-  span low b = record {
-    from = low;
-    upto = end-least .most;
-    filled = end-least .more;
-    begins = b;
-    whole = end-least .none;
-    ends = end-least .from;
-  }
-
-module _ (a : Axis) (ok : Regular a) (q lo hi : ℕ) (s : Span a q lo hi) where
+-- of the CTB of a position x
+module _ (a : Axis) (ok : Regular a) (q x : ℕ) (low : q * a .ctb ≤ x) (high : x < ctbLimit a q) where
   side4 : q * a .ctb % 4 ≡ 0
-  side4 =
-      let high : lo < q * a .ctb + a .ctb = omega (arith, s .upto, s .filled) in
-      rw (ctb-of a q lo (s .from) high) at (bound4 a ok lo before)
+  side4 = let here : x < q * a .ctb + a .ctb = omega arith in rw (ctb-of a q x low here) at (bound4 a ok x before)
 
   inner4 : (b : ℕ) → Inner a q b → b % 4 ≡ 0
   inner4 b (inl l) = omega (arith, l .1, side4, ok .ctb8, ok .big)
@@ -63,11 +46,80 @@ module _ (a : Axis) (ok : Regular a) (q lo hi : ℕ) (s : Span a q lo hi) where
   begins4 b (at-boundary e) = inner4 b (inr (elem-mem b (a .virtualBoundaries) e))
   begins4 b (at-line l e) = inner4 b (inl (l, e))
 
+  limit4 : ctbLimit a q % 4 ≡ 0
+  limit4 = omega (arith, side4, ok .ctb8, ok .size8)
+
+-- ---- the run of blocks from x on
+
+-- what stands where it ends, at r
+record Run (a : Axis) (q x r : ℕ) : Type 0 where
+  on : x ≤ r
+  moved : (x ≡ ctbLimit a q) ⊎ (x < r)
+  most : r ≤ ctbLimit a q
+  whole : (b : ℕ) → Inner a q b → x < b → r ≤ b
+  ends : (r ≡ ctbLimit a q) ⊎ Inner a q r
+
+module _ (a : Axis) (ok : Regular a) (side : Side → ClipCause) (q : ℕ) where
+  -- a block from x on
+  module _ (x : ℕ) (low : q * a .ctb ≤ x) (high : x + 4 ≤ ctbLimit a q) (x4 : x % 4 ≡ 0) where
+    place : (x + 3) / a .ctb ≡ q
+    place = ctb-of a q (x + 3) (omega arith) (omega arith)
+
+    -- where a rule finds a clip position after its last sample
+    stop : (e : ℕ) → e ≡ x + 4 → Rule a (x + 3) side after e → (x + 4 ≡ ctbLimit a q) ⊎ Inner a q (x + 4)
+    stop e is (line-rule l at) = inr (inl (l, sym is ∙ at ∙ ap (λ (p : ℕ). p * a .ctb + (a .ctb - 4)) place))
+    stop e is (virtual-rule m) = inr (inr (rw (← is) m))
+    stop e is (side-rule at _) = let end : e ≡ q * a .ctb + a .ctb = at ∙ ap (λ (p : ℕ). p * a .ctb + a .ctb) place in inl (omega arith)
+
+    -- where none does, none stands there
+    clear : Clear a (x + 3) side after → Inner a q (x + 4) → ⊥
+    clear n (inl l) = n .noLine (l .0) (let at : linePosition a (x + 3) ≡ x + 4 = ap (λ (p : ℕ). p * a .ctb + (a .ctb - 4)) place ∙ sym (l .1) in omega arith)
+    clear n (inr m) = n .free .0 (x + 4) m (omega arith)
+
+    later : (b : ℕ) → Inner a q b → x < b → x + 4 ≤ b
+    later b i h = let b4 = inner4 a ok q x low (omega arith) b i in omega arith
+
+    block : (o : Option ℕ) → Ends (Found a (x + 3) side after) (Clear a (x + 3) side after) o → {r : ℕ} → Run a q (x + 4) r
+        → Run a q x (cond (isNone o) r (x + 4))
+    block _ (stops {e} f) t = record { on = omega arith; moved = inr (omega arith); most = high; whole = later; ends = stop e (omega (arith, f .first)) (f .rule) }
+    block _ (runs n) {r} t = record {
+      on = omega (arith, t .on);
+      moved = inr (omega (arith, t .on));
+      most = t .most;
+      whole = λ b i h. by-cases (decLe b (x + 4)) (λ l. absurd (let here : b ≡ x + 4 = omega (arith, later b i h) in clear n (rw (← here) i))) (λ l. t .whole b i (omega arith));
+      ends = t .ends;
+    }
+
+  run : (n x : ℕ) → q * a .ctb ≤ x → x + 4 * n ≡ ctbLimit a q → x % 4 ≡ 0 → Run a q x (runEnd a side n x)
+  unfolding runEnd
+  run zero x low e x4 = record { on = omega arith; moved = inl (omega arith); most = omega arith; whole = λ b i h. omega arith; ends = inl (omega arith) }
+  run (suc n) x low e x4 =
+      block x low (omega arith) x4 _ (clip-found a ok (x + 3) side after) (run n (x + 4) (omega arith) (omega arith) (omega arith))
+
+  pub span : (x : ℕ) → x < ctbLimit a q → q * a .ctb ≤ x → Begins a q x → Span a q x (pieceEnd a side q x)
+  unfolding pieceEnd
+  span x high low b =
+      let x4 = begins4 a ok q x low high x b in
+      let all : x + 4 * ((ctbLimit a q - x) / 4) ≡ ctbLimit a q = omega (arith, limit4 a ok q x low high) in
+      let r = run ((ctbLimit a q - x) / 4) x low all x4 in
+      record {
+        from = low;
+        upto = r .most;
+        filled = ⊎-elim (λ (e : x ≡ ctbLimit a q). absurd (omega arith)) (λ h. h) (r .moved);
+        begins = b;
+        whole = r .whole;
+        ends = r .ends;
+      }
+
+module _ (a : Axis) (ok : Regular a) (q lo hi : ℕ) (s : Span a q lo hi) where
+  inside : lo < ctbLimit a q
+  inside = omega (arith, s .filled, s .upto)
+
   pub start4 : lo % 4 ≡ 0
-  start4 = begins4 lo (s .begins)
+  start4 = begins4 a ok q lo (s .from) inside lo (s .begins)
 
   pub end4 : hi % 4 ≡ 0
-  end4 = ⊎-elim (λ (e : hi ≡ ctbLimit a q). omega (arith, side4, ok .ctb8, ok .size8)) (inner4 hi) (s .ends)
+  end4 = ⊎-elim (λ (e : hi ≡ ctbLimit a q). rw e (limit4 a ok q lo (s .from) inside)) (inner4 a ok q lo (s .from) inside hi) (s .ends)
 
   -- where it ends within the CTB, another may begin
   pub next-begins : hi < ctbLimit a q → Begins a q hi

@@ -1,26 +1,27 @@
 -- What a piece of a CTB says of the samples in it, along one axis: the reads of `alf_spec` are clamped to the piece's own numbers. Assumes nothing.
 use mathlib.Core.Path.{_≡_, refl, sym, ap, _∙_, subst}
 use mathlib.Core.Bool.{Bool, true, false, _&&_, true≢false}
-use mathlib.Core.Option.{Option}
-use Prim.Native.Nat.{ℕ, pred, _*_, _/_, _%_, _≤_, _<_}
+use mathlib.Core.Option.{Option, some}
+use Prim.Native.Nat.{ℕ, pred, _+_, _*_, _/_, _%_, _≤_, _<_}
 use native.Mathlib.Nat.{mul-le-mul-right}
 use native.Mathlib.Omega.{arith}
 use lib.Dec.{leb, ltb}
 use borrow.Author.Tests.{ltb-true, leb-true, lt-ltb, le-ltb, le-leb, lt-leb}
+use Rattle.alf_spec.specs.declared.ClipCause.{ClipCause}
 use Rattle.alf_spec.specs.Geometry.{Side, before, after, Axis, samples, lumaPosition, ctbStart}
 use Rattle.alf_spec.specs.Boundary.{clipPosition}
-use Rattle.alf_spec.specs.Padding.{isNone, clamped, ctbEnd, pastCtb}
-use Rattle.alf_spec.proofs.Tests.{both, same-test, cond-either}
+use Rattle.alf_spec.specs.Padding.{isNone, lowest, limit, clamped, ctbEnd, pastCtb}
+use Rattle.alf_spec.proofs.Tests.{both, same-test}
 use Rattle.alf_spec.proofs.Axes.{Regular, ctb-of}
 use Rattle.alf_spec.proofs.IsolatedRegions.Ratios.{Ratio, own-le, le-own, own-lt, lt-own, boundary}
 use Rattle.alf_spec.proofs.IsolatedRegions.Reach.{Reach}
 use Rattle.alf_spec.proofs.IsolatedRegions.ClipPositions.{bound, bound4}
 use Rattle.alf_spec.proofs.IsolatedRegions.PastCtb.{past as past-ctb, beyond}
 use Rattle.alf_pieces.specs.declared.pieces.Piece.{Piece}
-use Rattle.alf_pieces.specs.Pieces.{ctbLimit, pieceEnd, cutAt, pieceAt, Begins, PieceOf, PieceIn}
+use Rattle.alf_pieces.specs.Pieces.{ctbLimit, pieceEnd, pieceAt, Begins, PieceOf, PieceIn}
 use Rattle.alf_pieces.specs.Copies.{held}
 use Rattle.alf_pieces.proofs.PieceEnds.{Span, span, start4, end4, next-begins}
-use Rattle.alf_pieces.proofs.PieceClips.{tip, Meets, at-end, open-end, far-end, meets, open-of}
+use Rattle.alf_pieces.proofs.PieceClips.{tip, outermost, AtTip, cut, uncut, at-tip, open-bound, Meets, at-end, open-end, far-end, meets}
 use Rattle.alf_pieces.proofs.PieceReads.{own-is, own-sum, own-most, inside, reach-inside, clamped-same}
 
 -- u lies past the piece on that side
@@ -40,7 +41,7 @@ pub record InPiece (a : Axis) (p : Piece) (x u : ℕ) : Type 0 where
   pub reach : Reach (lumaPosition a x) (lumaPosition a u)
 
 -- what the proofs of copies and kernels use of a piece
-pub record Facts (a : Axis) (disabled : Side → Bool) (q : ℕ) (p : Piece) : Type 0 where
+pub record Facts (a : Axis) (side : Side → ClipCause) (q : ℕ) (p : Piece) : Type 0 where
   -- its numbers
   pub numbers : PieceIn (samples a) p
   -- it lies in the CTB at place q, and begins and ends at multiples of 4 luma samples
@@ -51,10 +52,10 @@ pub record Facts (a : Axis) (disabled : Side → Bool) (q : ℕ) (p : Piece) : T
   -- where it ends within the CTB, another may begin
   pub next : lumaPosition a (p .end) < ctbLimit a q → Begins a q (lumaPosition a (p .end))
   -- a read from a sample of it is clamped to the piece's numbers
-  pub reads : (x u : ℕ) → InPiece a p x u → clamped a (clipPosition a (lumaPosition a x) disabled) u ≡ held (p .lowest) (p .limit) u
+  pub reads : (x u : ℕ) → InPiece a p x u → clamped a (clipPosition a (lumaPosition a x) side) u ≡ held (p .lowest) (p .limit) u
   -- a read past the CTB with no clip position between is a read past the piece
   pub past : (x u : ℕ) → InPiece a p x u → (d : Side)
-      → (pastCtb a d x (held (p .lowest) (p .limit) u) && isNone (clipPosition a (lumaPosition a x) disabled d)) ≡ pastPiece d p (held (p .lowest) (p .limit) u)
+      → (pastCtb a d x (held (p .lowest) (p .limit) u) && isNone (clipPosition a (lumaPosition a x) side d)) ≡ pastPiece d p (held (p .lowest) (p .limit) u)
   -- and the CTB's outermost sample is then the piece's
   pub edge : (x u : ℕ) → InPiece a p x u → (d : Side) → pastPiece d p (held (p .lowest) (p .limit) u) ≡ true → ctbEnd a d x ≡ outer d p
 
@@ -70,27 +71,42 @@ kept : (n : ℕ) (p : Piece) → PieceIn n p → (d : Side) → Closed d p → (
 kept n p i before c u = le-ltb (held (p .lowest) (p .limit) u) (p .start) (omega (arith, i .filled, i .high))
 kept n p i after c u = lt-leb (p .end) (held (p .lowest) (p .limit) u) (omega (arith, i .filled))
 
-module _ (a : Axis) (ok : Regular a) (ratio : Ratio (a .ratio)) (disabled : Side → Bool) (q s : ℕ)
-    (part : Span a q (lumaPosition a s) (pieceEnd a q (lumaPosition a s))) where
+module _ (a : Axis) (ok : Regular a) (ratio : Ratio (a .ratio)) (side : Side → ClipCause) (q s : ℕ)
+    (part : Span a q (lumaPosition a s) (pieceEnd a side q (lumaPosition a s))) where
   abbrev lo : ℕ
   lo = lumaPosition a s
 
   abbrev hi : ℕ
-  hi = pieceEnd a q lo
+  hi = pieceEnd a side q lo
 
   abbrev p : Piece
-  p = pieceAt a disabled q s
+  p = pieceAt a side q s
+
+  -- the clip position of its outermost sample on that side
+  abbrev outer-clip : Side → Option ℕ
+  outer-clip d = clipPosition a (outermost d lo hi) side d
+
+  most : hi / a .ratio ≤ samples a
+  most = let n4 : a .size % 4 ≡ 0 = omega (arith, ok .size8) in
+      own-le (a .ratio) hi (samples a) (omega (arith, part .upto, boundary (a .ratio) ratio (a .size) n4))
+
+  lowest-le : {o : Option ℕ} → AtTip lo o → lowest a o ≤ s
+  lowest-le cut = own-le (a .ratio) lo s (omega arith)
+  lowest-le uncut = omega arith
+
+  limit-in : {o : Option ℕ} → AtTip hi o → (hi / a .ratio ≤ limit a o) × (limit a o ≤ samples a)
+  limit-in cut = (omega arith, most)
+  limit-in uncut = (most, omega arith)
 
   numbers : a .ctb ≤ 128 → PieceIn (samples a) p
   unfolding pieceAt
   numbers small =
-      let n4 : a .size % 4 ≡ 0 = omega (arith, ok .size8) in
-      let most : hi / a .ratio ≤ samples a = own-le (a .ratio) hi (samples a) (omega (arith, part .upto, boundary (a .ratio) ratio (a .size) n4)) in
+      let at-limit = limit-in (at-tip a ok side q lo hi part after) in
       record {
-        low = cond-either (λ n. n ≤ s) (cutAt a disabled q before lo) s 0 (omega arith) (omega arith);
+        low = lowest-le (at-tip a ok side q lo hi part before);
         filled = own-lt (a .ratio) ratio hi s (end4 a ok q lo hi part) (part .filled);
-        high = cond-either (λ n. hi / a .ratio ≤ n) (cutAt a disabled q after hi) (hi / a .ratio) (samples a) (omega arith) most;
-        inside = cond-either (λ n. n ≤ samples a) (cutAt a disabled q after hi) (hi / a .ratio) (samples a) most (omega arith);
+        high = at-limit .0;
+        inside = at-limit .1;
         small = own-most (a .ratio) ratio hi s 128 (omega (arith, part .upto, part .from));
       }
 
@@ -98,10 +114,10 @@ module _ (a : Axis) (ok : Regular a) (ratio : Ratio (a .ratio)) (disabled : Side
   unfolding pieceAt
   end-luma = boundary (a .ratio) ratio hi (end4 a ok q lo hi part)
 
-  closed : (d : Side) → cutAt a disabled q d (tip d lo hi) ≡ true → Closed d p
+  closed : (d : Side) → outer-clip d ≡ some (tip d lo hi) → Closed d p
   unfolding pieceAt
-  closed before e = rw e refl
-  closed after e = rw e refl
+  closed before e = ap (lowest a) e ∙ own-is (a .ratio) ratio s
+  closed after e = ap (limit a) e
 
   -- the sample x of the piece, and its neighbour u
   module _ (n : PieceIn (samples a) p) (x u : ℕ) (h : InPiece a p x u) where
@@ -125,18 +141,14 @@ module _ (a : Axis) (ok : Regular a) (ratio : Ratio (a .ratio)) (disabled : Side
     inPlane : x < samples a
     inPlane = omega (arith, h .high, n .high, n .inside)
 
-    met : (d : Side) → Meets d (tip d lo hi) X (lumaPosition a (inside a u)) (clipPosition a X disabled d) (cutAt a disabled q d (tip d lo hi))
-    met d =
-        let here : Span a (X / a .ctb) lo hi = subst (λ (m : ℕ). Span a m lo hi) (sym place) part in
-        let inPicture = lt-own (a .ratio) (a .size) (inside a u) (omega (arith, inPlane)) in
-        subst (λ (m : ℕ). Meets d (tip d lo hi) X (lumaPosition a (inside a u)) (clipPosition a X disabled d) (cutAt a disabled m d (tip d lo hi))) place
-        (meets a ok disabled X lo hi here low high (lumaPosition a (inside a u)) (reach-inside a x u inPlane (h .reach)) inPicture d)
+    met : (d : Side) → Meets d (tip d lo hi) X (lumaPosition a (inside a u)) (clipPosition a X side d) (outer-clip d)
+    met = meets a ok side q lo hi part X (low, high) (lumaPosition a (inside a u)) (reach-inside a x u inPlane (h .reach))
 
-    reads : clamped a (clipPosition a X disabled) u ≡ held (p .lowest) (p .limit) u
+    reads : clamped a (clipPosition a X side) u ≡ held (p .lowest) (p .limit) u
     unfolding pieceAt
     reads =
-        clamped-same a x u ratio s hi (clipPosition a X disabled) (cutAt a disabled q before lo) (cutAt a disabled q after hi)
-        (h .low) high (end4 a ok q lo hi part) (omega (arith, n .high, n .inside)) (met before) (met after)
+        clamped-same a x u ratio s hi (clipPosition a X side) outer-clip (h .low) high (end4 a ok q lo hi part)
+        (n .low) (n .high) (n .inside) (met before) (met after)
 
     -- ---- past the piece, and past the CTB
 
@@ -161,22 +173,38 @@ module _ (a : Axis) (ok : Regular a) (ratio : Ratio (a .ratio)) (disabled : Side
     abbrev v : ℕ
     v = held (p .lowest) (p .limit) u
 
-    not-cut : (d : Side) → pastPiece d p v ≡ true → cutAt a disabled q d (tip d lo hi) ≡ false
-    not-cut d t = by (cutAt a disabled q d (tip d lo hi)) refl
+    not-cut : (d : Side) → pastPiece d p v ≡ true → isNone (outer-clip d) ≡ true
+    not-cut d t = by (outer-clip d) refl (at-tip a ok side q lo hi part d)
       where
-        by : (c : Bool) → cutAt a disabled q d (tip d lo hi) ≡ c → c ≡ false
-        by true e = absurd (true≢false (sym t ∙ kept (samples a) p n d (closed d e) u))
-        by false e = refl
+        by : (o : Option ℕ) → outer-clip d ≡ o → AtTip (tip d lo hi) o → isNone o ≡ true
+        by _ e cut = absurd (true≢false (sym t ∙ kept (samples a) p n d (closed d e) u))
+        by _ e uncut = refl
+
+    -- nothing in the plane lies past its end
+    in-picture : (d : Side) → pastPiece d p v ≡ true → tip d lo hi < a .size
+    unfolding pieceAt
+    in-picture before t = omega (arith, part .filled, part .upto)
+    in-picture after t =
+        let past = leb-true (hi / a .ratio) v t in
+        let in-plane : hi / a .ratio < samples a = omega (arith, n .inside, n .low, n .filled, n .high) in
+        omega (arith, lt-own (a .ratio) (a .size) (hi / a .ratio) in-plane, boundary (a .ratio) ratio hi (end4 a ok q lo hi part))
 
     at-bound : (d : Side) → pastPiece d p v ≡ true → tip d lo hi ≡ bound a d X
-    at-bound d t = open-of a ok disabled X d (tip d lo hi) (subst (λ (m : ℕ). cutAt a disabled m d (tip d lo hi) ≡ false) (sym place) (not-cut d t)) .0
+    at-bound d t = open-bound a ok side q lo hi part d (not-cut d t) (in-picture d t) ∙ same d
+      where
+        start-place : lo / a .ctb ≡ q
+        start-place = ctb-of a q lo (part .from) (omega (arith, part .filled, part .upto))
 
-    no-clip : (d : Side) (o : Option ℕ) (c : Bool) → Meets d (tip d lo hi) X (lumaPosition a (inside a u)) o c → c ≡ false → isNone o ≡ true
-    no-clip d _ _ at-end q = absurd (true≢false q)
+        same : (d : Side) → bound a d lo ≡ bound a d X
+        same before = ap (λ (m : ℕ). m * a .ctb) (start-place ∙ sym place)
+        same after = ap (λ (m : ℕ). m * a .ctb + a .ctb) (start-place ∙ sym place)
+
+    no-clip : (d : Side) (o o′ : Option ℕ) → Meets d (tip d lo hi) X (lumaPosition a (inside a u)) o o′ → isNone o′ ≡ true → isNone o ≡ true
+    no-clip d _ _ at-end q = q
     no-clip d _ _ open-end q = refl
     no-clip d _ _ (far-end f) q = refl
 
-    past : (d : Side) → (pastCtb a d x v && isNone (clipPosition a X disabled d)) ≡ pastPiece d p v
+    past : (d : Side) → (pastCtb a d x v && isNone (clipPosition a X side d)) ≡ pastPiece d p v
     past d =
         same-test _ _ (λ t. from-ctb d v (both (pastCtb a d x v) _ t .0))
         (λ t. simp (to-ctb d v (at-bound d t) t, no-clip d _ _ (met d) (not-cut d t)))
@@ -188,7 +216,7 @@ module _ (a : Axis) (ok : Regular a) (ratio : Ratio (a .ratio)) (disabled : Side
         let sum = own-sum (a .ratio) ratio (ctbStart a X) (a .ctb) (bound4 a ok X before) (ok .ctb8) in
         ap pred (sym sum ∙ ap (λ (m : ℕ). m / a .ratio) (sym (at-bound after t)))
 
-  facts : a .ctb ≤ 128 → Facts a disabled q p
+  facts : a .ctb ≤ 128 → Facts a side q p
   unfolding pieceAt
   facts small = record {
     numbers = numbers small;
@@ -202,8 +230,8 @@ module _ (a : Axis) (ok : Regular a) (ratio : Ratio (a .ratio)) (disabled : Side
     edge = λ x u h. edge (numbers small) x u h;
   }
 
-pub piece-facts : (a : Axis) → Regular a → Ratio (a .ratio) → a .ctb ≤ 128 → (disabled : Side → Bool) (q : ℕ) (p : Piece)
-    → PieceOf a disabled q p → Facts a disabled q p
-piece-facts a ok ratio small disabled q p h =
-    let part = span a q (lumaPosition a (p .start)) (h .upto) (h .from) (h .begins) in
-    subst (Facts a disabled q) (sym (h .is)) (facts a ok ratio disabled q (p .start) part small)
+pub piece-facts : (a : Axis) → Regular a → Ratio (a .ratio) → a .ctb ≤ 128 → (side : Side → ClipCause) (q : ℕ) (p : Piece)
+    → PieceOf a side q p → Facts a side q p
+piece-facts a ok ratio small side q p h =
+    let part = span a ok side q (lumaPosition a (p .start)) (h .upto) (h .from) (h .begins) in
+    subst (Facts a side q) (sym (h .is)) (facts a ok ratio side q (p .start) part small)

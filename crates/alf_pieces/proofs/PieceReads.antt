@@ -1,7 +1,6 @@
 -- A read from a sample of a piece is clamped to the numbers of the piece, in the plane's own samples. Assumes nothing.
 use mathlib.Core.Path.{_≡_, refl, ap, _∙_}
 use mathlib.Core.Logic.{by-cases}
-use mathlib.Core.Bool.{Bool, cond}
 use mathlib.Core.Option.{Option}
 use Prim.Native.Nat.{ℕ, pred, _+_, _*_, _/_, _%_, _≤_, _<_, min, max}
 use native.Mathlib.Nat.{mul-le-mul-right}
@@ -9,7 +8,6 @@ use native.Mathlib.Decide.{decLe}
 use native.Mathlib.Omega.{arith}
 use Rattle.alf_spec.specs.Geometry.{Side, before, after, Axis, samples, lumaPosition}
 use Rattle.alf_spec.specs.Padding.{lowest, limit, clamped}
-use Rattle.alf_spec.proofs.Tests.{cond-either}
 use Rattle.alf_spec.proofs.Axes.{not-gt}
 use Rattle.alf_spec.proofs.IsolatedRegions.Ratios.{Ratio, whole, half, own-le, own-lt}
 use Rattle.alf_spec.proofs.IsolatedRegions.Reach.{Reach}
@@ -52,19 +50,19 @@ held-same n l m u h k =
 
 module _ (a : Axis) (ratio : Ratio (a .ratio)) (x u : ℕ) where
   -- before the piece, which begins at s
-  low-same : (s : ℕ) (o : Option ℕ) (c : Bool) → Meets before (lumaPosition a s) x (lumaPosition a u) o c → lumaPosition a s ≤ x
-      → max (lowest a o) u ≡ max (cond c s 0) u
-  low-same s _ _ at-end h = rw (own-is (a .ratio) ratio s)
+  low-same : (s : ℕ) (o o′ : Option ℕ) → Meets before (lumaPosition a s) x (lumaPosition a u) o o′ → lumaPosition a s ≤ x
+      → max (lowest a o) u ≡ max (lowest a o′) u
+  low-same s _ _ at-end h = refl
   low-same s _ _ open-end h = refl
   low-same s _ _ (far-end f) h =
       let l : lumaPosition a s ≤ lumaPosition a u = not-gt (λ l. f (h, l)) in
-      let k : s ≤ u = rw (own-is (a .ratio) ratio s) at (own-le (a .ratio) (lumaPosition a s) u l) in
+      let k = own-le (a .ratio) (lumaPosition a s) u l in
       omega arith
 
   -- after it, where it ends at hi; w is the neighbour, clamped on the other side
-  high-same : (hi w : ℕ) (o : Option ℕ) (c : Bool) → Meets after hi x (lumaPosition a u) o c → hi % 4 ≡ 0 → x < hi → hi / a .ratio ≤ samples a
+  high-same : (hi w : ℕ) (o o′ : Option ℕ) → Meets after hi x (lumaPosition a u) o o′ → hi % 4 ≡ 0 → x < hi → hi / a .ratio ≤ samples a
       → (u < hi / a .ratio → w < hi / a .ratio)
-      → min (pred (limit a o)) w ≡ min (pred (cond c (hi / a .ratio) (samples a))) w
+      → min (pred (limit a o)) w ≡ min (pred (limit a o′)) w
   high-same hi w _ _ at-end q h k near = refl
   high-same hi w _ _ open-end q h k near = refl
   high-same hi w _ _ (far-end f) q h k near =
@@ -85,21 +83,18 @@ module _ (a : Axis) (x u : ℕ) where
       (λ l. let e : inside a u ≡ u = omega arith in rw e r)
       (λ l. reach-less (lumaPosition a x) (lumaPosition a u) _ (mul-le-mul-right (a .ratio) (omega arith)) (mul-le-mul-right (a .ratio) (omega arith)) r)
 
-  -- the piece from s to hi, whose ends are cut or not
-  pub clamped-same : Ratio (a .ratio) → (s hi : ℕ) (clip : Side → Option ℕ) (c e : Bool)
-      → s ≤ x → lumaPosition a x < hi → hi % 4 ≡ 0 → hi / a .ratio ≤ samples a
-      → Meets before (lumaPosition a s) (lumaPosition a x) (lumaPosition a (inside a u)) (clip before) c
-      → Meets after hi (lumaPosition a x) (lumaPosition a (inside a u)) (clip after) e
-      → clamped a clip u ≡ held (cond c s 0) (cond e (hi / a .ratio) (samples a)) u
-  clamped-same ratio s hi clip c e low high q k m m′ =
+  -- the piece from s to hi, by the clip positions of its outermost samples
+  pub clamped-same : Ratio (a .ratio) → (s hi : ℕ) (clip outer : Side → Option ℕ)
+      → s ≤ x → lumaPosition a x < hi → hi % 4 ≡ 0 → lowest a (outer before) ≤ s → hi / a .ratio ≤ limit a (outer after) → limit a (outer after) ≤ samples a
+      → Meets before (lumaPosition a s) (lumaPosition a x) (lumaPosition a (inside a u)) (clip before) (outer before)
+      → Meets after hi (lumaPosition a x) (lumaPosition a (inside a u)) (clip after) (outer after)
+      → clamped a clip u ≡ held (lowest a (outer before)) (limit a (outer after)) u
+  clamped-same ratio s hi clip outer low high q l h k m m′ =
       let inPiece = own-lt (a .ratio) ratio hi x q high in
-      let l : cond c s 0 ≤ s = cond-either (λ n. n ≤ s) c s 0 (omega arith) (omega arith) in
-      let h : (hi / a .ratio ≤ cond e (hi / a .ratio) (samples a)) × (cond e (hi / a .ratio) (samples a) ≤ samples a) =
-      cond-either (λ n. (hi / a .ratio ≤ n) × (n ≤ samples a)) e (hi / a .ratio) (samples a) (omega arith) (omega arith) in
-      ap (min (pred (limit a (clip after)))) (low-same a ratio (lumaPosition a x) (inside a u) s (clip before) c m (mul-le-mul-right (a .ratio) low))
-      ∙ high-same a ratio (lumaPosition a x) (inside a u) hi (max (cond c s 0) (inside a u)) (clip after) e m′ q high k
-      (λ g. less (cond c s 0) (inside a u) (hi / a .ratio) (omega arith) g)
-      ∙ held-same (samples a) (cond c s 0) (cond e (hi / a .ratio) (samples a)) u (omega arith) (h .1)
+      ap (min (pred (limit a (clip after)))) (low-same a ratio (lumaPosition a x) (inside a u) s (clip before) (outer before) m (mul-le-mul-right (a .ratio) low))
+      ∙ high-same a ratio (lumaPosition a x) (inside a u) hi (max (lowest a (outer before)) (inside a u)) (clip after) (outer after) m′ q high (omega arith)
+      (λ g. less (lowest a (outer before)) (inside a u) (hi / a .ratio) (omega arith) g)
+      ∙ held-same (samples a) (lowest a (outer before)) (limit a (outer after)) u (omega arith) k
     where
       less : (l v n : ℕ) → l < n → v < n → max l v < n
       less l v n h k = omega arith

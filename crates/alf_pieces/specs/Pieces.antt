@@ -1,42 +1,29 @@
--- The pieces of a CTB along an axis: where one ends, and what reads from its samples are clamped to. `proofs/PieceFacts` shows that this is
--- the clamping of `alf_spec`, for every sample of the piece. Assumes nothing.
+-- The pieces of a CTB along an axis: where one ends, and what reads from its samples are clamped to, both by the clip positions of `alf_spec`.
+-- `proofs/PieceFacts` shows that this is the clamping of `alf_spec`, for every sample of the piece. Assumes nothing.
 use mathlib.Core.Path.{_≡_}
-use mathlib.Core.Bool.{Bool, true, not, _&&_, _||_, cond}
-use mathlib.Core.List.{List, [], _∷_}
-use Prim.Native.Nat.{ℕ, _+_, _-_, _*_, _/_, _%_, _≤_, _<_, min}
-use lib.Dec.{eqb, ltb}
+use mathlib.Core.Bool.{true, cond}
+use Prim.Native.Nat.{ℕ, zero, suc, pred, _+_, _-_, _*_, _/_, _%_, _≤_, _<_, min}
+use Rattle.alf_spec.specs.declared.ClipCause.{ClipCause}
 use Rattle.alf_spec.specs.declared.Picture.{Picture}
 use Rattle.alf_spec.specs.declared.Ctb.{Ctb}
 use Rattle.alf_spec.specs.declared.Sides.{Sides}
 use Rattle.alf_spec.specs.Lists.{elem}
 use Rattle.alf_spec.specs.Input.{Layout}
-use Rattle.alf_spec.specs.Geometry.{Side, before, after, Axis, samples, lumaPosition}
+use Rattle.alf_spec.specs.Geometry.{Side, before, after, Axis, lumaPosition}
+use Rattle.alf_spec.specs.Boundary.{clipPosition}
+use Rattle.alf_spec.specs.Padding.{isNone, lowest, limit}
 use Rattle.alf_spec.specs.Faults.{pictureSizeValid, ctbSizeValid, virtualBoundariesValid}
 use Rattle.alf_boundary.specs.Tables.{SidesOf}
 use Rattle.alf_pieces.specs.declared.pieces.Piece.{Piece}
 
 -- one of two, by the side
-abbrev pub either : Bool → Bool → Side → Bool
+abbrev pub either : ClipCause → ClipCause → Side → ClipCause
 either b c before = b
 either b c after = c
 
 -- ---- where a piece ends, in luma positions
 
--- the boundary b, where it lies after x and before `end`
-abbrev pub nearer : ℕ → ℕ → ℕ → ℕ
-nearer x end b = cond (ltb x b && ltb b end) b end
-
--- the first of these boundaries after x and before `end`
-unfoldable pub nextBoundary : List ℕ → ℕ → ℕ → ℕ
-nextBoundary [] x end = end
-nextBoundary (b ∷ bs) x end = nextBoundary bs x (nearer x end b)
-
--- the sides of the CTB at place q of an axis
-abbrev pub ctbSide : Axis → Side → ℕ → ℕ
-ctbSide a before q = q * a .ctb
-ctbSide a after q = q * a .ctb + a .ctb
-
--- where it ends in the picture: the last CTB may not be whole
+-- where the CTB at place q ends in the picture: the last CTB may not be whole
 abbrev pub ctbLimit : Axis → ℕ → ℕ
 ctbLimit a q = min (q * a .ctb + a .ctb) (a .size)
 
@@ -44,23 +31,24 @@ ctbLimit a q = min (q * a .ctb + a .ctb) (a .size)
 abbrev pub ctbLine : Axis → ℕ → ℕ
 ctbLine a q = q * a .ctb + (a .ctb - 4)
 
--- the piece that begins at x ends at the next virtual boundary, at the line-buffer boundary, or where the CTB ends
-unfoldable pub pieceEnd : Axis → ℕ → ℕ → ℕ
-pieceEnd a q x = nextBoundary (a .virtualBoundaries) x (cond (a .hasLine) (nearer x (ctbLimit a q) (ctbLine a q)) (ctbLimit a q))
+-- a run of blocks of 4 samples from x on, at most n of them: it ends with the first block whose last sample has a clip position after it
+unfoldable pub runEnd : Axis → (Side → ClipCause) → ℕ → ℕ → ℕ
+runEnd a side zero x = x
+runEnd a side (suc n) x = cond (isNone (clipPosition a (x + 3) side after)) (runEnd a side n (x + 4)) (x + 4)
+
+-- the piece that begins at x ends where such a run does, or where the CTB ends
+unfoldable pub pieceEnd : Axis → (Side → ClipCause) → ℕ → ℕ → ℕ
+pieceEnd a side q x = runEnd a side ((ctbLimit a q - x) / 4) x
 
 -- ---- what reads are clamped to
 
--- reads stop at the end b of a piece: it is not the CTB's side, or it is a virtual boundary, or filtering across the side is disabled
-unfoldable pub cutAt : Axis → (Side → Bool) → ℕ → Side → ℕ → Bool
-cutAt a disabled q d b = not (eqb b (ctbSide a d q)) || (elem b (a .virtualBoundaries) || disabled d)
-
--- the piece that begins at the plane's own sample x: where its ends are not cut, reads go on to the plane's
-unfoldable pub pieceAt : Axis → (Side → Bool) → ℕ → ℕ → Piece
-pieceAt a disabled q x = record {
+-- the piece that begins at the plane's own sample x: reads are clamped to the clip position before its first sample, and to that after its last
+unfoldable pub pieceAt : Axis → (Side → ClipCause) → ℕ → ℕ → Piece
+pieceAt a side q x = record {
   start = x;
-  end = pieceEnd a q (lumaPosition a x) / a .ratio;
-  lowest = cond (cutAt a disabled q before (lumaPosition a x)) x 0;
-  limit = cond (cutAt a disabled q after (pieceEnd a q (lumaPosition a x))) (pieceEnd a q (lumaPosition a x) / a .ratio) (samples a);
+  end = pieceEnd a side q (lumaPosition a x) / a .ratio;
+  lowest = lowest a (clipPosition a (lumaPosition a x) side before);
+  limit = limit a (clipPosition a (pred (pieceEnd a side q (lumaPosition a x))) side after);
 }
 
 -- a piece of the luma plane in the samples of a plane with this ratio to luma
@@ -76,11 +64,11 @@ pub data Begins (a : Axis) (q x : ℕ) : Type 0 where
   at-line : a .hasLine ≡ true → x ≡ ctbLine a q → Begins a q x
 
 -- p is a piece of the CTB at place q
-pub record PieceOf (a : Axis) (disabled : Side → Bool) (q : ℕ) (p : Piece) : Type 0 where
+pub record PieceOf (a : Axis) (side : Side → ClipCause) (q : ℕ) (p : Piece) : Type 0 where
   pub from : q * a .ctb ≤ lumaPosition a (p .start)
   pub upto : lumaPosition a (p .start) < ctbLimit a q
   pub begins : Begins a q (lumaPosition a (p .start))
-  pub is : p ≡ pieceAt a disabled q (p .start)
+  pub is : p ≡ pieceAt a side q (p .start)
 
 -- the numbers of a piece, along n samples of a plane: what indexes need
 pub record PieceIn (n : ℕ) (p : Piece) : Type 0 where

@@ -1,15 +1,20 @@
-// The pieces of a CTB along an axis. A clip position is a side of the CTB, a virtual boundary or the line-buffer boundary; split at these, a CTB
-// falls into a few pieces, and all reads from the samples of a piece are clamped to one range, which is found once.
+// The pieces of a CTB along an axis. A piece goes from one clip position to the next, and all reads from its samples are clamped to one range, which is
+// found once: that of its first and of its last sample.
 ghost use mathlib.Core.Path.{_≡_};
-ghost use mathlib.Core.Bool.{true, false, not, _||_, cond};
-ghost use Prim.Native.Nat.{ℕ, _≤_, _<_};
-ghost use lib.Dec.{eqb};
-ghost use Rattle.alf_spec.specs.Lists.{elem};
+ghost use mathlib.Core.Bool.{Bool, true, false};
+ghost use mathlib.Core.List.{List};
+ghost use Prim.Native.Nat.{ℕ, _+_, _*_, min, _≤_, _<_};
+ghost use Rattle.alf_spec.specs.declared.ClipCause.{ClipCause};
+ghost use Rattle.alf_spec.specs.Geometry.{Side, after};
+ghost use Rattle.alf_spec.specs.Padding.{isNone, lowest as lowestOf, limit as limitOf};
 ghost use Rattle.alf_math.specs.Grids.{GridOf};
-ghost use Rattle.alf_boundary.specs.Clips.{axisOf};
-ghost use Rattle.alf_pieces.specs.Pieces.{nearer as nearerOf, nextBoundary, pieceEnd, pieceAt, scaled as scaledBy, either};
-use alf_boundary::padding::least;
-use alf_boundary::virtual_boundaries::is_listed;
+ghost use Rattle.alf_boundary.specs.Clips.{axisOf, positionOf};
+ghost use Rattle.alf_pieces.specs.Pieces.{pieceEnd, pieceAt, scaled as scaledBy, either};
+use alf_boundary::clips::Edge;
+use alf_boundary::clips::clip_after;
+use alf_boundary::clips::clip_before;
+use alf_math::grid::previous;
+use alf_spec::ClipCause;
 use alf_spec::Grid;
 use alf_spec::Picture;
 use alf_spec::Sides;
@@ -24,85 +29,98 @@ pub struct Piece {
     pub limit: u32,
 }
 
-// The nearer of an end and a boundary that lies after x.
-fn nearer(x: u32, end: u32, boundary: u32) -> u32
-    ensures { λ r. ⌜ r ≡ nearerOf x end boundary ⌝ }
+// Whether there is no clip position.
+fn is_open(edge: Edge) -> bool
+    ensures { λ r. ⌜ r ≡ isNone (positionOf edge) ⌝ }
 {
-    if (x < boundary) & (boundary < end) {
-        boundary
-    } else {
-        end
+    match edge {
+        Edge::At(_) => false,
+        Edge::Open => true,
     }
 }
 
-// The first virtual boundary after x, where one lies before the end.
-fn next_boundary(boundaries: &[u16], x: u32, end: u32) -> u32
-    ensures { λ r. ⌜ r ≡ nextBoundary (now (boundaries .entry)) x end ⌝ }
+// Where reads begin: the clip position before, in the plane's own samples, or 0.
+fn lowest(edge: Edge, ratio: u32) -> u32
+    requires { ⌜ 0 < ratio ⌝ }
+    ensures { λ r. ⌜ ((size ctb : ℕ) (boundaries : List ℕ) (line : Bool) → r ≡ lowestOf (axisOf size ctb boundaries line ratio) (positionOf edge)) ⌝ }
 {
-    let mut nearest = end;
-    let mut i = 0;
-    while i < boundaries.len() {
-        nearest = nearer(x, nearest, boundaries[i] as u32);
-        i += 1;
+    match edge {
+        Edge::At(clip) => clip.position / ratio,
+        Edge::Open => 0,
     }
-    nearest
 }
 
-// Whether reads stop at the end b of a piece: it is not the CTB's side, or it is a virtual boundary, or filtering across the side is disabled.
-fn is_cut(boundaries: &[u16], side: u32, disabled: bool, b: u32) -> bool
-    ensures { λ r. ⌜ r ≡ (not (eqb b side) || (elem b (now (boundaries .entry)) || disabled)) ⌝ }
+// Where reads end: the clip position after, in the plane's own samples, or the plane's end.
+fn limit(edge: Edge, size: u32, ratio: u32) -> u32
+    requires { ⌜ 0 < ratio ⌝ }
+    ensures { λ r. ⌜ ((ctb : ℕ) (boundaries : List ℕ) (line : Bool) → r ≡ limitOf (axisOf size ctb boundaries line ratio) (positionOf edge)) ⌝ }
 {
-    (b != side) | (is_listed(boundaries, b) | disabled)
-}
-
-// One of two, by a test.
-fn choice(test: bool, a: u32, b: u32) -> u32
-    ensures { λ r. ⌜ r ≡ cond test a b ⌝ }
-{
-    if test { a } else { b }
-}
-
-// Where the piece ends that begins at the luma position x of the CTB at place q.
-fn piece_end(size: u32, ctb: u32, line: bool, boundaries: &[u16], q: u32, x: u32) -> u32
-    requires { ⌜ (4 ≤ ctb) × (ctb ≤ 128) × (q ≤ 128) ⌝ }
-    ensures { λ r. ⌜ ((ratio : ℕ) → r ≡ pieceEnd (axisOf size ctb (now (boundaries .entry)) line ratio) q x) ⌝ }
-{
-    let first = q * ctb;
-    let end = least(first + ctb, size);
-    if line {
-        return next_boundary(boundaries, x, nearer(x, end, first + (ctb - 4)));
+    match edge {
+        Edge::At(clip) => clip.position / ratio,
+        Edge::Open => size / ratio,
     }
-    next_boundary(boundaries, x, end)
 }
 
-// The piece that begins at the sample x of the CTB at place q of an axis; the flags say that filtering across a side of the CTB is disabled.
+// Where the CTB at place q of an axis ends in the picture, in luma samples.
+pub fn ctb_limit(size: u32, ctb: u32, q: u32) -> u32
+    requires { ⌜ (ctb ≤ 128) × (q ≤ 128) ⌝ }
+    ensures { λ r. ⌜ r ≡ min (q * ctb + ctb) size ⌝ }
+{
+    let end = q * ctb + ctb;
+    if end < size { end } else { size }
+}
+
+// Where the piece ends that begins at the luma position x of the CTB at place q: with the first block of 4 samples whose last one has a clip position
+// after it. What closes a side is a multiple of 4, so no clip position stands within a block.
+fn piece_end(
+    size: u32,
+    ctb: u32,
+    line: bool,
+    boundaries: &[u16],
+    side: ClipCause,
+    q: u32,
+    x: u32,
+) -> u32
+    requires { ⌜ (4 ≤ ctb) × (ctb ≤ 128) × (q ≤ 128) × (x ≤ 65535) ⌝ }
+    ensures { λ r. ⌜ (r ≤ 65535) × ((ratio : ℕ) (sides : Side → ClipCause) → sides after ≡ side
+        → r ≡ pieceEnd (axisOf size ctb (now (boundaries .entry)) line ratio) sides q x) ⌝ }
+{
+    let limit = ctb_limit(size, ctb, q);
+    let mut end = x;
+    while end + 4 <= limit {
+        let last = end + 3;
+        end += 4;
+        if !is_open(clip_after(ctb, line, boundaries, side, last)) {
+            return end;
+        }
+    }
+    end
+}
+
+// The piece that begins at the sample x of the CTB at place q of an axis, between sides with these causes.
 fn piece_from(
     size: u32,
     ctb: u32,
     line: bool,
     boundaries: &[u16],
     ratio: u32,
-    off_before: bool,
-    off_after: bool,
+    side_before: ClipCause,
+    side_after: ClipCause,
     q: u32,
     x: u32,
 ) -> Piece
     requires { ⌜ (4 ≤ ctb) × (ctb ≤ 128) × (0 < ratio) × (ratio ≤ 2) × (q ≤ 128) × (x ≤ 4096) ⌝ }
-    ensures { λ r. ⌜ r ≡ pieceAt (axisOf size ctb (now (boundaries .entry)) line ratio) (either «off_before» «off_after») q x ⌝ }
+    ensures { λ r. ⌜ r ≡ pieceAt (axisOf size ctb (now (boundaries .entry)) line ratio) (either «side_before» «side_after») q x ⌝ }
 {
     let at = x * ratio;
-    let first = q * ctb;
-    let stop = piece_end(size, ctb, line, boundaries, q, at);
-    let end = stop / ratio;
+    let stop = piece_end(size, ctb, line, boundaries, side_after, q, at);
+    let lower = clip_before(ctb, line, boundaries, side_before, at);
+    let upper = clip_after(ctb, line, boundaries, side_after, previous(stop));
     Piece {
         start: x,
-        end,
-        lowest: choice(is_cut(boundaries, first, off_before, at), x, 0),
-        limit: choice(
-            is_cut(boundaries, first + ctb, off_after, stop),
-            end,
-            size / ratio,
-        ),
+        end: stop / ratio,
+        lowest: lowest(lower, ratio),
+        limit: limit(upper, size, ratio),
     }
 }
 
@@ -120,14 +138,16 @@ pub fn column_piece(
     ensures { λ r. ⌜ r ≡ pieceAt (axisOf (picture .width) (grid .ctb) (now («virtual_columns» .entry)) false ratio)
         (either (sides .left) (sides .right)) q x ⌝ }
 {
+    let left = sides.left;
+    let right = sides.right;
     piece_from(
         picture.width,
         grid.ctb,
         false,
         virtual_columns,
         ratio,
-        sides.left,
-        sides.right,
+        left,
+        right,
         q,
         x,
     )
@@ -147,14 +167,16 @@ pub fn row_piece(
     ensures { λ r. ⌜ r ≡ pieceAt (axisOf (picture .height) (grid .ctb) (now («virtual_rows» .entry)) true ratio)
         (either (sides .top) (sides .bottom)) q y ⌝ }
 {
+    let top = sides.top;
+    let bottom = sides.bottom;
     piece_from(
         picture.height,
         grid.ctb,
         true,
         virtual_rows,
         ratio,
-        sides.top,
-        sides.bottom,
+        top,
+        bottom,
         q,
         y,
     )

@@ -1,4 +1,5 @@
 // What the example programs print with: text, numbers, planes, class maps and answers.
+use alf_spec::ClipCause;
 use alf_spec::Isolation;
 use libc::STDOUT_FILENO;
 
@@ -42,6 +43,18 @@ pub fn print_isolation(text: &[u8], number: u8, answer: Isolation) {
         Isolation::Isolated => print(b", isolated\n"),
         Isolation::NotIsolated => print(b", not isolated\n"),
         Isolation::Rejected(fault) => print(b"\n"),
+    }
+}
+
+// What closes a side.
+pub fn print_cause(cause: ClipCause) {
+    match cause {
+        ClipCause::Open => print(b"open"),
+        ClipCause::LineBufferBoundary => print(b"line-buffer boundary"),
+        ClipCause::VirtualBoundary => print(b"virtual boundary"),
+        ClipCause::Tile => print(b"tile"),
+        ClipCause::Slice => print(b"slice"),
+        ClipCause::Subpicture => print(b"subpicture"),
     }
 }
 

@@ -13,7 +13,7 @@ use Rattle.alf_spec.specs.Lists.{within, implies}
 use Rattle.alf_spec.specs.Input.{Layout, Operation, given, Input}
 use Rattle.alf_spec.specs.Geometry.{ctbSize, lumaPlane, chromaPlane, blockPlane, planeLength, ctbColumns, ctbRows, ctbTotal}
 use Rattle.alf_spec.specs.Process.{outputPlane}
-use Rattle.alf_spec.specs.Faults.{sizeValid, pictureSizeValid, ctbSizeValid, bitDepthValid, chromaFormatValid, componentValid, layoutLengthsValid, filterLengthsValid, fixedLengthsValid, lengthsValid, regionLengthValid, virtualListValid, virtualBoundariesValid, tilesValid, slicesValid, subpicturesValid, regionValid, parametersValid, bankValid, fixedValid, samplesValid, unless, layoutFault, tablesFault, fault, isolationFault}
+use Rattle.alf_spec.specs.Faults.{sizeValid, pictureSizeValid, ctbSizeValid, bitDepthValid, chromaFormatValid, componentValid, layoutLengthsValid, filterLengthsValid, fixedLengthsValid, lengthsValid, regionLengthValid, virtualListValid, virtualBoundariesValid, tilesValid, slicesValid, subpicturesValid, regionValid, parametersValid, bankValid, fixedValid, samplesValid, positionValid, unless, layoutFault, tablesFault, fault, isolationFault, causesFault}
 use Rattle.alf_spec.proofs.Tests.{both, implied, every-entry}
 
 -- of a chain of tests that gives no number, the first passes, and what follows gives none
@@ -113,6 +113,14 @@ accepted-layout l region q = chain l true (regionLengthValid l region) (unless (
 pub accepted-region : (l : Layout) (region : List ℕ) → isolationFault l region ≡ 0 → length region ≡ planeLength (blockPlane l)
 unfolding isolationFault regionLengthValid
 accepted-region l region q = eqb-true (length region) _ (chain l true (regionLengthValid l region) (unless (regionValid region) 14 0) q .2)
+
+-- a layout of which the causes at a luma position are named, and the position
+pub accepted-position : (l : Layout) (x y : ℕ) → causesFault l true x y ≡ 0 → Accepted l × (x < l .picture .width) × (y < l .picture .height)
+unfolding causesFault positionValid
+accepted-position l x y q =
+    let all = chain l true true (unless (positionValid (l .picture) x y) 15 0) q in
+    let inside = both (ltb x (l .picture .width)) _ (passed (positionValid (l .picture) x y) 14 0 (all .3) .0) in
+    (all .0, ltb-true x (l .picture .width) (inside .0), ltb-true y (l .picture .height) (inside .1))
 
 -- a component is 0 or 1: cause 4 of the chroma and of the cross-component filter
 pub component-of : (p : Picture) (component : ℕ) → (not (eqb (p .«chroma_format») 0) && leb component 1) ≡ true → component ≤ 1

@@ -2,6 +2,8 @@
 pub mod Accepted
 pub mod Answers
 pub mod Axes
+pub mod CauseExamples
+pub mod Causes
 pub mod Examples
 pub mod Faults
 pub mod IsolatedRegions

@@ -12,7 +12,7 @@ use Rattle.alf_spec.specs.Input.{Input, classes}
 use Rattle.alf_spec.specs.Lists.{allBelow, everyFrom, elem, sumBelow, sumBelowℤ, tabulate, painted}
 use Rattle.alf_spec.specs.Arithmetic.{clip3, distance, rounded, clipSample, clippedChange, tap, tapSum, filtered}
 use Rattle.alf_spec.specs.Geometry.{lumaPlane, ctbSize, subWidth, subHeight, planeOf, lineRule, bottomDistance}
-use Rattle.alf_spec.specs.Boundary.{sliceOf, subpicOf, tileColumnOf, tileRowOf, tileDisables, sliceDisables, subpicDisables, columnDisabled, rowDisabled, cornerDisabled, find, lineClip, virtualClip, sideClip, clipPosition}
+use Rattle.alf_spec.specs.Boundary.{sliceOf, subpicOf, tileColumnOf, tileRowOf, tileDisables, sliceDisables, subpicDisables, stepCause, columnSide, rowSide, cornerDisabled, find, lineClip, virtualClip, sideClip, clip, clipPosition}
 use Rattle.alf_spec.specs.Padding.{columnClip, rowClip, pastCorner, paddedColumn, paddedRow, read}
 use Rattle.alf_spec.specs.Parameters.{ctbParam, sliceParam, bankNumber, fixedCoeff}
 use Rattle.alf_spec.specs.Classes.{classWindow, filtH, filtV, filtD0, filtD1, windowRows, windowSum, windowSums, larger, diagonal, mainGradient, otherGradient, strength, activity, transposeIdx, filtIdx, classOfSums, classOf, blockClass}
@@ -85,7 +85,7 @@ pub record SmallPictures : Type 0 where
   pub flag-off : filteredAt (twoCtbs 1 0 (1 ∷ 0 ∷ [])) ≡ true ∷ false ∷ true ∷ false ∷ []
 
 pub small-pictures : SmallPictures
-unfolding allBelow everyFrom elem sumBelow sumBelowℤ tabulate painted clip3 distance rounded clipSample clippedChange tap tapSum filtered ctbSize subWidth subHeight planeOf lineRule bottomDistance sliceOf subpicOf tileColumnOf tileRowOf tileDisables sliceDisables subpicDisables columnDisabled rowDisabled cornerDisabled find lineClip virtualClip sideClip clipPosition columnClip rowClip paddedRow pastCorner paddedColumn read ctbParam sliceParam bankNumber fixedCoeff classWindow filtH filtV filtD0 filtD1 windowRows windowSum windowSums larger diagonal mainGradient otherGradient strength activity transposeIdx filtIdx classOfSums classOf blockClass lumaF lumaC tapOrder lumaRows lumaPlus lumaMinus lumaWith lumaSample chromaRows chromaPlus chromaMinus chromaWith chromaSample crossRows crossTaps crossSum corrected crossWith crossSample classAt classMap lumaOn isFiltered atIndex filteredPlane result
+unfolding allBelow everyFrom elem sumBelow sumBelowℤ tabulate painted clip3 distance rounded clipSample clippedChange tap tapSum filtered ctbSize subWidth subHeight planeOf lineRule bottomDistance sliceOf subpicOf tileColumnOf tileRowOf tileDisables sliceDisables subpicDisables stepCause columnSide rowSide cornerDisabled find lineClip virtualClip sideClip clip clipPosition columnClip rowClip paddedRow pastCorner paddedColumn read ctbParam sliceParam bankNumber fixedCoeff classWindow filtH filtV filtD0 filtD1 windowRows windowSum windowSums larger diagonal mainGradient otherGradient strength activity transposeIdx filtIdx classOfSums classOf blockClass lumaF lumaC tapOrder lumaRows lumaPlus lumaMinus lumaWith lumaSample chromaRows chromaPlus chromaMinus chromaWith chromaSample crossRows crossTaps crossSum corrected crossWith crossSample classAt classMap lumaOn isFiltered atIndex filteredPlane result
 small-pictures = record {
   class-map = refl;
   line-classes = refl;

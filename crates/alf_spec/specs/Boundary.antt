@@ -1,16 +1,28 @@
 -- 8.8.5.5, ALF boundary position derivation: the sides of a CTB across which filtering is disabled (01: closed), and the clip positions
--- (01: edges) of a sample. Assumes nothing.
-use mathlib.Core.Bool.{Bool, true, false, not, _&&_, _||_}
+-- (01: edges) of a sample, each with its cause (02, card 1). Assumes nothing.
+use mathlib.Core.Bool.{Bool, true, false, not, _&&_, cond}
 use mathlib.Core.List.{List, [], _∷_}
-use mathlib.Core.Option.{Option, some, none}
+use mathlib.Core.Option.{Option, some, none, Option·map}
 use Prim.Native.Nat.{ℕ, _+_, _-_}
 use lib.Dec.{eqb, leb, ltb}
 use lib.ListN.{getD}
 use Rattle.alf_spec.specs.declared.Ctb.{Ctb}
+use Rattle.alf_spec.specs.declared.Clip.{Clip}
+use Rattle.alf_spec.specs.declared.ClipCause.{ClipCause}
+use Rattle.alf_spec.specs.declared.ClipCause.the-variants.{Open, LineBufferBoundary, VirtualBoundary, Tile, Slice, Subpicture}
 use Rattle.alf_spec.specs.Input.{Layout}
 use Rattle.alf_spec.specs.Geometry.{Side, before, after, next, hasNext, Axis, ctbStart, inCtb, ctbColumns, ctbRows, address}
 
 -- ---- sides
+
+-- (01: closed) the side has a cause: filtering across it is disabled
+abbrev pub isClosed : ClipCause → Bool
+isClosed Open = false
+isClosed LineBufferBoundary = true
+isClosed VirtualBoundary = true
+isClosed Tile = true
+isClosed Slice = true
+isClosed Subpicture = true
 
 module _ (l : Layout) (c : Ctb) where
   -- the slice of a CTB: 01, one byte per CTB
@@ -44,9 +56,9 @@ module _ (l : Layout) (c n : Ctb) where
   unfoldable pub subpicDisables : Bool
   subpicDisables = not (eqb (subpicOf l c) (subpicOf l n)) && eqb (getD (l .subpicAcross) (subpicOf l c) 0) 0
 
-  -- one or more of these, as 8.8.5.5 has it
-  abbrev pub disables : Bool
-  disables = tileDisables || (sliceDisables || subpicDisables)
+  -- one or more of these, as 8.8.5.5 has it; 02, card 1: "the order is tile, slice, subpicture"
+  unfoldable pub stepCause : ClipCause
+  stepCause = cond tileDisables Tile (cond sliceDisables Slice (cond subpicDisables Subpicture Open))
 
 -- the CTB left or right of c
 abbrev pub besideCtb : Side → Ctb → Ctb
@@ -60,13 +72,21 @@ stackedCtb d c = record { column = c .column; row = next d (c .row) }
 abbrev pub diagonalCtb : Side → Ctb → Ctb
 diagonalCtb d c = record { column = next d (c .column); row = next d (c .row) }
 
--- (01: closed) filtering across the left or right side of a CTB is disabled; at the picture's rim there is no CTB across
-unfoldable pub columnDisabled : Layout → Ctb → Side → Bool
-columnDisabled l c d = hasNext (ctbColumns l) d (c .column) && disables l c (besideCtb d c)
+-- what closes the left or right side of a CTB; at the picture's rim there is no CTB across
+unfoldable pub columnSide : Layout → Ctb → Side → ClipCause
+columnSide l c d = cond (hasNext (ctbColumns l) d (c .column)) (stepCause l c (besideCtb d c)) Open
+
+-- its top or bottom
+unfoldable pub rowSide : Layout → Ctb → Side → ClipCause
+rowSide l c d = cond (hasNext (ctbRows l) d (c .row)) (stepCause l c (stackedCtb d c)) Open
+
+-- (01: closed) filtering across the left or right side of a CTB is disabled
+abbrev pub columnDisabled : Layout → Ctb → Side → Bool
+columnDisabled l c d = isClosed (columnSide l c d)
 
 -- across its top or bottom
-unfoldable pub rowDisabled : Layout → Ctb → Side → Bool
-rowDisabled l c d = hasNext (ctbRows l) d (c .row) && disables l c (stackedCtb d c)
+abbrev pub rowDisabled : Layout → Ctb → Side → Bool
+rowDisabled l c d = isClosed (rowSide l c d)
 
 -- across its upper left or lower right corner, by slices alone: clipTopLeftFlag, clipBotRightFlag
 unfoldable pub cornerDisabled : Layout → Ctb → Side → Bool
@@ -74,49 +94,58 @@ cornerDisabled l c d = hasNext (ctbColumns l) d (c .column) && (hasNext (ctbRows
 
 -- ---- clip positions
 
--- a position, where the test passes
-abbrev pub only : Bool → ℕ → Option ℕ
-only true e = some e
-only false e = none
+-- a position and its cause, where the test passes
+abbrev pub only : Bool → ClipCause → ℕ → Option Clip
+only true k e = some (record { cause = k; position = e })
+only false k e = none
 
--- the first position that a rule finds
+-- the first that a rule finds
 infixr 2 _orElse_
-abbrev pub _orElse_ : Option ℕ → Option ℕ → Option ℕ
-_orElse_ (some e) o = some e
+abbrev pub _orElse_ : Option Clip → Option Clip → Option Clip
+_orElse_ (some c) o = some c
 _orElse_ none o = o
 
--- the first entry that passes, "for any n" of (1511) to (1514)
-unfoldable pub find : (ℕ → Bool) → List ℕ → Option ℕ
+-- the first virtual boundary that passes, "for any n" of (1511) to (1514)
+unfoldable pub find : (ℕ → Bool) → List ℕ → Option Clip
 find test [] = none
-find test (v ∷ vs) = only (test v) v orElse find test vs
+find test (v ∷ vs) = only (test v) VirtualBoundary v orElse find test vs
 
 -- a virtual boundary v lies 0 to 2 before x or at it; it lies 1 to 4 after x
 abbrev pub near : Side → ℕ → ℕ → Bool
 near before x v = leb v x && leb (x - v) 2
 near after x v = ltb x v && leb (v - x) 4
 
--- 01's rules at the position x along an axis, in its words for rows; left and right are the same without the line. `disabled d` says that
--- filtering across side d of x's CTB is disabled (01: that side is closed).
+-- 01's rules at the position x along an axis, in its words for rows; left and right are the same without the line. `side d` says what closes side d
+-- of x's CTB.
 module _ (a : Axis) (x : ℕ) where
   -- the line lies 4 luma rows above the CTB's bottom
   abbrev pub linePosition : ℕ
   linePosition = ctbStart a x + (a .ctb - 4)
 
   -- the line if y ≥ S − 4; the line if it is 1 to 4 below
-  unfoldable pub lineClip : Side → Option ℕ
-  lineClip before = only (a .hasLine && leb (a .ctb - 4) (inCtb a x)) linePosition
-  lineClip after = only (a .hasLine && (ltb x linePosition && leb (linePosition - x) 4)) linePosition
+  unfoldable pub lineClip : Side → Option Clip
+  lineClip before = only (a .hasLine && leb (a .ctb - 4) (inCtb a x)) LineBufferBoundary linePosition
+  lineClip after = only (a .hasLine && (ltb x linePosition && leb (linePosition - x) 4)) LineBufferBoundary linePosition
 
   -- (1511) to (1514): a virtual row 0 to 2 rows above or at the sample; a virtual row 1 to 4 below
-  unfoldable pub virtualClip : Side → Option ℕ
+  unfoldable pub virtualClip : Side → Option Clip
   virtualClip d = find (near d x) (a .virtualBoundaries)
 
   -- the CTB top if y < 3 and that side is closed; the CTB bottom if S − y < 5 and that side is closed
-  unfoldable pub sideClip : (Side → Bool) → Side → Option ℕ
-  sideClip disabled before = only (ltb (inCtb a x) 3 && disabled before) (ctbStart a x)
-  sideClip disabled after = only (ltb (a .ctb - inCtb a x) 5 && disabled after) (ctbStart a x + a .ctb)
+  unfoldable pub sideClip : (Side → ClipCause) → Side → Option Clip
+  sideClip side before = only (ltb (inCtb a x) 3 && isClosed (side before)) (side before) (ctbStart a x)
+  sideClip side after = only (ltb (a .ctb - inCtb a x) 5 && isClosed (side after)) (side after) (ctbStart a x + a .ctb)
 
-  -- (01: edge) clipTopPos or clipLeftPos, clipBottomPos or clipRightPos, where there is one
-  unfoldable pub clipPosition : (Side → Bool) → Side → Option ℕ
-  clipPosition disabled before = lineClip before orElse virtualClip before orElse sideClip disabled before
-  clipPosition disabled after = virtualClip after orElse lineClip after orElse sideClip disabled after
+  -- (01: edge) the clip position with its cause, where there is one: "the first that 01 tests counts"
+  unfoldable pub clip : (Side → ClipCause) → Side → Option Clip
+  clip side before = lineClip before orElse virtualClip before orElse sideClip side before
+  clip side after = virtualClip after orElse lineClip after orElse sideClip side after
+
+  -- clipTopPos or clipLeftPos, clipBottomPos or clipRightPos
+  unfoldable pub clipPosition : (Side → ClipCause) → Side → Option ℕ
+  clipPosition side d = Option·map (λ c. c .position) (clip side d)
+
+-- the cause, and open where there is no clip position
+abbrev pub causeOf : Option Clip → ClipCause
+causeOf none = Open
+causeOf (some c) = c .cause

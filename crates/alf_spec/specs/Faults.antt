@@ -202,7 +202,7 @@ bankValid i = everyFrom 0 (bankNumberValid (i .layout .picture .«bit_depth»)) 
 unfoldable pub fixedValid : Input → Bool
 fixedValid i = every coeffValid (i .fixedFilters) && every (λ n. ltb n 64) (i .fixedMap)
 
--- ---- 12 to 14
+-- ---- 12 to 15
 
 -- 12: no input sample of 2^B or more
 unfoldable pub samplesValid : Picture → List ℕ → Bool
@@ -219,6 +219,10 @@ regionLengthValid l region = eqb (length region) (planeLength (blockPlane l))
 -- 14: region numbers 0 or 1
 unfoldable pub regionValid : List ℕ → Bool
 regionValid region = every (λ n. leb n 1) region
+
+-- 15: the luma position lies in the picture (02, card 1)
+unfoldable pub positionValid : Picture → ℕ → ℕ → Bool
+positionValid p x y = ltb x (p .width) && ltb y (p .height)
 
 -- ---- the lowest number that applies; only what the operation is given is judged
 
@@ -256,3 +260,7 @@ fault op i = layoutFault (i .layout) (componentValid op (i .layout .picture)) (l
 -- the isolation test's
 unfoldable pub isolationFault : Layout → List ℕ → ℕ
 isolationFault l region = layoutFault l true (regionLengthValid l region) (unless (regionValid region) 14 0)
+
+-- that of naming the causes at a luma position: 15 is "judged last". The test is that of the room for them, where they are written to a list.
+unfoldable pub causesFault : Layout → Bool → ℕ → ℕ → ℕ
+causesFault l room x y = layoutFault l true room (unless (positionValid (l .picture) x y) 15 0)

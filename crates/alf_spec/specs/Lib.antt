@@ -5,6 +5,7 @@ pub mod Input
 pub mod Geometry
 pub mod Boundary
 pub mod Padding
+pub mod Causes
 pub mod Parameters
 pub mod Classes
 pub mod Luma

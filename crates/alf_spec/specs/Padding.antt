@@ -8,7 +8,7 @@ use lib.Dec.{ltb}
 use lib.ListN.{getD}
 use Rattle.alf_spec.specs.Input.{Layout}
 use Rattle.alf_spec.specs.Geometry.{Side, before, after, Axis, Plane, samples, lumaPosition, indexOf, ctbStart, ctbAt}
-use Rattle.alf_spec.specs.Boundary.{columnDisabled, rowDisabled, cornerDisabled, clipPosition}
+use Rattle.alf_spec.specs.Boundary.{columnSide, rowSide, cornerDisabled, clipPosition}
 
 -- 01: no edge
 abbrev pub isNone : Option ℕ → Bool
@@ -46,11 +46,11 @@ module _ (a : Axis) where
 module _ (l : Layout) (g : Plane) (x y : ℕ) where
   -- clipLeftPos and clipRightPos of the sample
   unfoldable pub columnClip : Side → Option ℕ
-  columnClip = clipPosition (g .columns) (lumaPosition (g .columns) x) (columnDisabled l (ctbAt g x y))
+  columnClip = clipPosition (g .columns) (lumaPosition (g .columns) x) (columnSide l (ctbAt g x y))
 
   -- clipTopPos and clipBottomPos of the sample
   unfoldable pub rowClip : Side → Option ℕ
-  rowClip = clipPosition (g .rows) (lumaPosition (g .rows) y) (rowDisabled l (ctbAt g x y))
+  rowClip = clipPosition (g .rows) (lumaPosition (g .rows) y) (rowSide l (ctbAt g x y))
 
   -- its neighbour at column p and row q; a position is never negative, so x − 3 is 0 where x is below 3
   module _ (p q : ℕ) where

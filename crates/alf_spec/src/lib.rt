@@ -16,7 +16,7 @@ pub struct Picture {
     pub across_slices: bool,
 }
 
-// Why an input is rejected, in the order of the numbers 1 to 14 of 01's table.
+// Why an input is rejected, in the order of the numbers 1 to 14 of 01's table and of those that 02's cards add.
 pub enum Fault {
     PictureSize,
     CtbSize,
@@ -38,6 +38,8 @@ pub enum Fault {
     Address,
     // an entry of a region (01: area byte)
     Region,
+    // a luma position outside the picture
+    Position,
 }
 
 // The answer of the class map and of the three filters.
@@ -50,6 +52,38 @@ pub enum Answer {
 pub enum Isolation {
     Isolated,
     NotIsolated,
+    Rejected(Fault),
+}
+
+// What closes a side of a luma sample, or of a CTB (02, card 1: cause), in the order of the numbers 0 to 5. A CTB's side is open, or has one of the
+// last three.
+pub enum ClipCause {
+    Open,
+    // 01: the line
+    LineBufferBoundary,
+    VirtualBoundary,
+    Tile,
+    Slice,
+    Subpicture,
+}
+
+// A clip position (01: edge) of a luma sample, with its cause.
+pub struct Clip {
+    pub cause: ClipCause,
+    pub position: u32,
+}
+
+// The causes on the four sides of a luma sample.
+pub struct SideCauses {
+    pub top: ClipCause,
+    pub bottom: ClipCause,
+    pub left: ClipCause,
+    pub right: ClipCause,
+}
+
+// The answer of the operation that names them.
+pub enum ClipCauses {
+    Named(SideCauses),
     Rejected(Fault),
 }
 
@@ -66,12 +100,12 @@ pub struct Ctb {
     pub row: u32,
 }
 
-// A CTB's sides and corners: true where filtering across is disabled (01: closed). The corners are judged by slices alone.
+// A CTB's sides, by what closes them, and its corners: true where filtering across is disabled (01: closed). The corners are judged by slices alone.
 pub struct Sides {
-    pub left: bool,
-    pub right: bool,
-    pub top: bool,
-    pub bottom: bool,
+    pub left: ClipCause,
+    pub right: ClipCause,
+    pub top: ClipCause,
+    pub bottom: ClipCause,
     // clipTopLeftFlag
     pub upper_left: bool,
     // clipBotRightFlag

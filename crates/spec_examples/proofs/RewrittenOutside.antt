@@ -14,7 +14,7 @@ use Rattle.alf_spec.specs.Lists.{implies, allBelow, everyFrom, elem, sumBelow, 
 use Rattle.alf_spec.specs.Arithmetic.{clip3, distance, rounded, clipSample, clippedChange, tap, tapSum, filtered}
 use Rattle.alf_spec.specs.Input.{Layout, luma, Input}
 use Rattle.alf_spec.specs.Geometry.{ctbSize, planeOf, lumaPlane, indexOf, ctbAt, address, lineRule, bottomDistance}
-use Rattle.alf_spec.specs.Boundary.{sliceOf, subpicOf, tileColumnOf, tileRowOf, tileDisables, sliceDisables, subpicDisables, columnDisabled, rowDisabled, cornerDisabled, find, lineClip, virtualClip, sideClip, clipPosition}
+use Rattle.alf_spec.specs.Boundary.{sliceOf, subpicOf, tileColumnOf, tileRowOf, tileDisables, sliceDisables, subpicDisables, stepCause, columnSide, rowSide, cornerDisabled, find, lineClip, virtualClip, sideClip, clip, clipPosition}
 use Rattle.alf_spec.specs.Padding.{columnClip, rowClip, paddedRow, pastCorner, paddedColumn, read}
 use Rattle.alf_spec.specs.Parameters.{ctbParam, sliceParam, bankNumber, fixedCoeff}
 use Rattle.alf_spec.specs.Classes.{classWindow, filtH, filtV, filtD0, filtD1, windowRows, windowSum, windowSums, larger, diagonal, mainGradient, otherGradient, strength, activity, transposeIdx, filtIdx, classOfSums, classOf, blockClass}
@@ -126,7 +126,7 @@ pub record RewrittenOutside : Type 0 where
   pub differ-if-open : getD (result luma (before (subpictures 1))) 31 0 ∷ getD (result luma (after (subpictures 1))) 31 0 ∷ [] ≡ 0 ∷ 50 ∷ []
 
 pub rewritten-outside : RewrittenOutside
-unfolding everyFrom allBelow elem sumBelow sumBelowℤ tabulate painted clip3 distance rounded clipSample clippedChange tap tapSum filtered ctbSize planeOf lineRule bottomDistance sliceOf subpicOf tileColumnOf tileRowOf tileDisables sliceDisables subpicDisables columnDisabled rowDisabled cornerDisabled find lineClip virtualClip sideClip clipPosition columnClip rowClip paddedRow pastCorner paddedColumn read ctbParam sliceParam bankNumber fixedCoeff classWindow filtH filtV filtD0 filtD1 windowRows windowSum windowSums larger diagonal mainGradient otherGradient strength activity transposeIdx filtIdx classOfSums classOf blockClass lumaF lumaC tapOrder lumaRows lumaPlus lumaMinus lumaWith lumaSample lumaOn isFiltered atIndex filteredPlane result
+unfolding everyFrom allBelow elem sumBelow sumBelowℤ tabulate painted clip3 distance rounded clipSample clippedChange tap tapSum filtered ctbSize planeOf lineRule bottomDistance sliceOf subpicOf tileColumnOf tileRowOf tileDisables sliceDisables subpicDisables stepCause columnSide rowSide cornerDisabled find lineClip virtualClip sideClip clip clipPosition columnClip rowClip paddedRow pastCorner paddedColumn read ctbParam sliceParam bankNumber fixedCoeff classWindow filtH filtV filtD0 filtD1 windowRows windowSum windowSums larger diagonal mainGradient otherGradient strength activity transposeIdx filtIdx classOfSums classOf blockClass lumaF lumaC tapOrder lumaRows lumaPlus lumaMinus lumaWith lumaSample lumaOn isFiltered atIndex filteredPlane result
 rewritten-outside = record { filtered-inside = refl; differ-outside = refl; differ-if-open = refl }
 
 -- the switch is off, and by the claim there is none

@@ -1,30 +1,33 @@
-// P9 to P11: clip positions, a padded position and the line rule, with CTBs of 32.
+// P9 to P11 on what the filters run: clip positions and their causes, the copy of a piece, and the line rule. CTBs are of 32.
 ghost use Prim.Native.Nat.{_≤_};
-use alf_boundary::clips::Clip;
+use alf_boundary::clips::Edge;
 use alf_boundary::clips::clip_after;
 use alf_boundary::clips::clip_before;
 use alf_boundary::clips::line_rule;
-use alf_boundary::padding::column_span;
-use alf_boundary::padding::ctb_ends;
-use alf_boundary::padding::padded_column;
-use alf_boundary::padding::padded_row;
-use alf_boundary::padding::row_corners;
-use alf_boundary::padding::row_span;
 use alf_boundary::sides::sides_of;
 use alf_math::grid::grid;
+use alf_pieces::copies::copy_piece;
+use alf_pieces::copies::extent;
+use alf_pieces::pieces::column_piece;
+use alf_pieces::pieces::row_piece;
 use alf_print::print;
+use alf_print::print_cause;
 use alf_print::print_number;
+use alf_spec::ClipCause;
 use alf_spec::Ctb;
 use alf_spec::Picture;
 
-fn show_clip(y: u32, clip: Clip) {
+fn show_edge(y: u32, edge: Edge) {
     print_number(y);
-    match clip {
-        Clip::At(e) => {
+    match edge {
+        Edge::At(clip) => {
             print(b" -> ");
-            print_number(e);
+            print_number(clip.position);
+            print(b", ");
+            let cause = clip.cause;
+            print_cause(cause);
         }
-        Clip::Nowhere => print(b" -> none"),
+        Edge::Open => print(b" -> none"),
     }
 }
 
@@ -35,7 +38,10 @@ pub fn show_below(y: u32)
     let boundaries = [0u16; 1];
     let none = 0;
     print(b"  below ");
-    show_clip(y, clip_after(32, true, &boundaries[..none], false, y));
+    show_edge(
+        y,
+        clip_after(32, true, &boundaries[..none], ClipCause::Open, y),
+    );
 }
 
 // And above it.
@@ -45,22 +51,35 @@ pub fn show_above(y: u32)
     let boundaries = [0u16; 1];
     let none = 0;
     print(b"  above ");
-    show_clip(y, clip_before(32, true, &boundaries[..none], false, y));
+    show_edge(
+        y,
+        clip_before(32, true, &boundaries[..none], ClipCause::Open, y),
+    );
 }
 
-fn show_position(column: u32, row: u32) {
+// Each sample is its own index, so that a copy tells where its samples come from.
+fn number_samples(plane: &mut [u16]) {
+    let mut k = 0;
+    while k < plane.len() {
+        plane[k] = (k % 65536) as u16;
+        k += 1;
+    }
+}
+
+// The position of the sample with this index, 40 in a row.
+fn show_position(index: u16) {
     print(b"(");
-    print_number(column);
+    print_number((index % 40) as u32);
     print(b",");
-    print_number(row);
+    print_number((index / 40) as u32);
     print(b")");
 }
 
-// Two by two CTBs, the upper left one of another slice, the slice switch off: what stands for (31,31) at the sample (32,32).
+// Two by two CTBs in 40 by 40 samples, the upper left one of another slice, the slice switch off: what stands for (31,31) at the sample (32,32).
 pub fn show_corner() {
     let picture = Picture {
-        width: 64,
-        height: 64,
+        width: 40,
+        height: 40,
         ctb_log2: 5,
         bit_depth: 8,
         chroma_format: 0,
@@ -86,13 +105,16 @@ pub fn show_corner() {
         &across,
         ctb,
     );
-    let columns = column_span(picture, grid, &boundaries[..none], 1, sides, 32);
-    let rows = row_span(picture, grid, &boundaries[..none], 1, sides, 32);
-    let ends = ctb_ends(32, 1, 1);
-    let row = padded_row(64, rows, 31);
-    let corners = row_corners(sides, rows, ends, row);
+    let columns = column_piece(picture, grid, &boundaries[..none], 1, sides, 1, 32);
+    let rows = row_piece(picture, grid, &boundaries[..none], 1, sides, 1, 32);
+    let mut plane = [0u16; 1600];
+    number_samples(&mut plane);
+    let mut copy = [0u16; 196];
+    copy_piece(&plane, 40, columns, rows, sides, &mut copy);
+    // the margin is of 3 samples, so that the one up-left of the piece stands at column 2 and row 2
+    let pitch = extent(columns) + 6;
     print(b"  (31,31) -> ");
-    show_position(padded_column(64, columns, ends, corners, 31), row);
+    show_position(copy[2 * pitch + 2]);
 }
 
 // Whether the line rule is on for the CTB at row 32 of a picture of this height.

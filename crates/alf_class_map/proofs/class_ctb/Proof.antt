@@ -2,7 +2,7 @@
 use mathlib.Core.Path.{_≡_, refl, ap, _∙_}
 use mathlib.Core.Bool.{true}
 use mathlib.Core.Logic.{inr}
-use Prim.Native.Nat.{ℕ, _+_, _-_, _*_, _/_, min}
+use Prim.Native.Nat.{ℕ, _+_, _-_, _*_, _/_, min, _≤_}
 use native.Mathlib.Nat.{div-one}
 use native.Mathlib.Omega.{arith}
 use borrow.Author.Needs.{needs}
@@ -36,11 +36,15 @@ abbrev μ-loop : tie.MeasureT-loop
 
 -- what the function is given
 abbrev start : tie.In-loop Inv-loop μ-loop → tie.Start Inv-loop μ-loop
-start c = c .before .before .before .before .before .before .before .before .before .before .before .before
+start c = c .before .before .before .before .before .before .before .before .before .before .before
+
+-- a CTB's place in the grid
+few : (s : tie.Start Inv-loop μ-loop) → s .args .ctb .row ≤ 128
+few s = place-bound (s .pre .0 .rooms .grid .ctbLow) (height-bounds (s .args .picture) (s .pre .0 .rooms .sizes) (s .pre .0 .rooms .ctbSize) .1) (s .pre .4)
 
 loop-holds : tie.Need-loop-holds Inv-loop μ-loop
 loop-holds c = (
-  walk-start (omega arith) (c .before .before .before .before .before .before .before .before .before .before .pre .4),
+  walk-start (omega arith) (c .before .before .before .before .before .before .before .before .before .pre .4),
   refl,
   refl,
   refl,
@@ -55,7 +59,7 @@ found c =
     let s = start (c .before) in
     let work = s .pre .0 .rooms in
     turn (rows-regular (work .grid) (work .sizes) (work .ctbSize) (s .pre .2) 1) whole (work .grid .ctbHigh) (c .before .before .loop .inv .0)
-    (omega (arith, c .before .before .before .least .ensures, c .before .loop-test .taken)) (c .row-piece .ensures)
+    (omega (arith, c .before .before .before .ctb-limit .ensures, c .before .loop-test .taken)) (c .row-piece .ensures)
 
 class-strip-requires : tie.Need-class-strip-requires Inv-loop μ-loop
 class-strip-requires c κs =
@@ -87,7 +91,7 @@ loop-again c =
 returns : tie.Need-returns Inv-loop μ-loop
 returns c =
     let inv = c .before .loop .inv in
-    let done = walk-done whole (inv .0) (omega (arith, c .before .before .least .ensures, c .loop-test .left)) ∙ div-one _ in
+    let done = walk-done whole (inv .0) (omega (arith, c .before .before .ctb-limit .ensures, c .loop-test .left)) ∙ div-one _ in
     λ l of e r. rw done at (paint-is (inv .4 l of e r))
 
 pub class-ctb-spec : {M : Type 1} → statement M
@@ -97,16 +101,11 @@ class-ctb-spec =
     Inv-loop
     μ-loop
     (λ c. omega arith)
-    (λ c.
-    let s = c .before .before .before .before .before .before .before .before .before in
-    omega (arith, height-bounds (s .args .picture) (s .pre .0 .rooms .sizes) (s .pre .0 .rooms .ctbSize), s .pre .0 .rooms .grid .ctbHigh))
-    (λ c κs. search needs)
+    (λ c κs. let s = c .before .before .before .before .before .before .before .before in (s .pre .0 .rooms .grid .ctbHigh, few s))
     loop-holds
     (λ c κs.
     let s = start c in
-    let high = height-bounds (s .args .picture) (s .pre .0 .rooms .sizes) (s .pre .0 .rooms .ctbSize) in
-    let few = place-bound (s .pre .0 .rooms .grid .ctbLow) (high .1) (s .pre .4) in
-    (s .pre .0 .rooms .grid, omega arith, omega arith, few, omega (arith, c .loop-test .taken, c .before .before .least .ensures)))
+    (s .pre .0 .rooms .grid, omega arith, omega arith, few s, omega (arith, height-bounds (s .args .picture) (s .pre .0 .rooms .sizes) (s .pre .0 .rooms .ctbSize), c .loop-test .taken, c .before .before .ctb-limit .ensures)))
     class-strip-requires
     loop-less
     loop-again

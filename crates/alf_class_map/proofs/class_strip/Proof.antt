@@ -2,14 +2,14 @@
 use mathlib.Core.Path.{_≡_, refl, ap, _∙_}
 use mathlib.Core.Bool.{false}
 use mathlib.Core.Logic.{inl}
-use Prim.Native.Nat.{ℕ, _-_, _*_, _/_}
+use Prim.Native.Nat.{ℕ, _-_, _*_, _/_, _≤_}
 use native.Mathlib.Nat.{div-one}
 use native.Mathlib.Omega.{arith}
 use borrow.Author.Needs.{needs}
 use lib.ListN.{length}
 use Rattle.alf_spec.specs.Input.{Layout}
 use Rattle.alf_spec.specs.Geometry.{lumaPlane}
-use Rattle.alf_spec.specs.Boundary.{rowDisabled}
+use Rattle.alf_spec.specs.Boundary.{rowSide}
 use Rattle.alf_spec.specs.Process.{classAt}
 use Rattle.alf_spec.proofs.IsolatedRegions.Ratios.{whole}
 use Rattle.alf_math.proofs.Grids.{place-bound, width-bounds}
@@ -29,7 +29,7 @@ abbrev Inv-loop : tie.InvT-loop
 Inv-loop picture grid virtual-columns ctb sides rows luma copy₀ differences₀ map₀ left right x₀ copy differences map x =
     Walk (axisOf (picture .width) (grid .ctb) virtual-columns false 1) (ctb .column) x
     × (length copy ≡ length copy₀) × (length differences ≡ length differences₀) × (length map ≡ length map₀)
-    × ((l : Layout) → CtbOf l picture ctb sides → l .virtualColumns ≡ virtual-columns → PieceOf (lumaPlane l .rows) (rowDisabled l ctb) (ctb .row) rows
+    × ((l : Layout) → CtbOf l picture ctb sides → l .virtualColumns ≡ virtual-columns → PieceOf (lumaPlane l .rows) (rowSide l ctb) (ctb .row) rows
     → Paint map₀ (inRect (picture .width / 4) (ctb .column * grid .ctb / 4) (x / 4) (rows .start / 4) (rows .end / 4)) (classAt l luma) map)
 
 abbrev μ-loop : tie.MeasureT-loop
@@ -37,11 +37,15 @@ abbrev μ-loop : tie.MeasureT-loop
 
 -- what the function is given
 abbrev start : tie.In-loop Inv-loop μ-loop → tie.Start Inv-loop μ-loop
-start c = c .before .before .before .before .before .before .before .before .before .before .before
+start c = c .before .before .before .before .before .before .before .before .before .before
+
+-- a CTB's place in the grid
+few : (s : tie.Start Inv-loop μ-loop) → s .args .ctb .column ≤ 128
+few s = place-bound (s .pre .0 .rooms .grid .ctbLow) (width-bounds (s .args .picture) (s .pre .0 .rooms .sizes) (s .pre .0 .rooms .ctbSize) .1) (s .pre .3)
 
 loop-holds : tie.Need-loop-holds Inv-loop μ-loop
 loop-holds c = (
-  walk-start (omega arith) (c .before .before .before .before .before .before .before .before .before .pre .3),
+  walk-start (omega arith) (c .before .before .before .before .before .before .before .before .pre .3),
   refl,
   refl,
   refl,
@@ -56,7 +60,7 @@ found c =
     let s = start (c .before) in
     let work = s .pre .0 .rooms in
     turn (columns-regular (work .grid) (work .sizes) (work .ctbSize) (s .pre .1) 1) whole (work .grid .ctbHigh) (c .before .before .loop .inv .0)
-    (omega (arith, c .before .before .before .least .ensures, c .before .loop-test .taken)) (c .column-piece .ensures)
+    (omega (arith, c .before .before .before .ctb-limit .ensures, c .before .loop-test .taken)) (c .column-piece .ensures)
 
 class-piece-requires : tie.Need-class-piece-requires Inv-loop μ-loop
 class-piece-requires c κs =
@@ -88,7 +92,7 @@ loop-again c =
 returns : tie.Need-returns Inv-loop μ-loop
 returns c =
     let inv = c .before .loop .inv in
-    let done = walk-done whole (inv .0) (omega (arith, c .before .before .least .ensures, c .loop-test .left)) ∙ div-one _ in
+    let done = walk-done whole (inv .0) (omega (arith, c .before .before .ctb-limit .ensures, c .loop-test .left)) ∙ div-one _ in
     λ l of e down. rw done at (paint-is (inv .4 l of e down))
 
 pub class-strip-spec : {M : Type 1} → statement M
@@ -98,16 +102,11 @@ class-strip-spec =
     Inv-loop
     μ-loop
     (λ c. omega arith)
-    (λ c.
-    let s = c .before .before .before .before .before .before .before .before in
-    omega (arith, width-bounds (s .args .picture) (s .pre .0 .rooms .sizes) (s .pre .0 .rooms .ctbSize), s .pre .0 .rooms .grid .ctbHigh))
-    (λ c κs. search needs)
+    (λ c κs. let s = c .before .before .before .before .before .before .before in (s .pre .0 .rooms .grid .ctbHigh, few s))
     loop-holds
     (λ c κs.
     let s = start c in
-    let wide = width-bounds (s .args .picture) (s .pre .0 .rooms .sizes) (s .pre .0 .rooms .ctbSize) in
-    let few = place-bound (s .pre .0 .rooms .grid .ctbLow) (wide .1) (s .pre .3) in
-    (s .pre .0 .rooms .grid, omega arith, omega arith, few, omega (arith, c .loop-test .taken, c .before .before .least .ensures)))
+    (s .pre .0 .rooms .grid, omega arith, omega arith, few s, omega (arith, width-bounds (s .args .picture) (s .pre .0 .rooms .sizes) (s .pre .0 .rooms .ctbSize), c .loop-test .taken, c .before .before .ctb-limit .ensures)))
     class-piece-requires
     loop-less
     loop-again

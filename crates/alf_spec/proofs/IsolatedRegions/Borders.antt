@@ -8,7 +8,7 @@ use lib.ListN.{replicate, getD}
 use Rattle.alf_spec.specs.Input.{Layout, classes}
 use Rattle.alf_spec.specs.Lists.{allBelow, everyFrom, elem, tabulate}
 use Rattle.alf_spec.specs.Geometry.{ctbSize, planeOf, lumaPlane}
-use Rattle.alf_spec.specs.Boundary.{sliceOf, subpicOf, tileColumnOf, tileRowOf, tileDisables, sliceDisables, subpicDisables, columnDisabled, rowDisabled, cornerDisabled, find, lineClip, virtualClip, sideClip, clipPosition}
+use Rattle.alf_spec.specs.Boundary.{sliceOf, subpicOf, tileColumnOf, tileRowOf, tileDisables, sliceDisables, subpicDisables, stepCause, columnSide, rowSide, cornerDisabled, find, lineClip, virtualClip, sideClip, clip, clipPosition}
 use Rattle.alf_spec.specs.Padding.{columnClip, rowClip, pastCorner, paddedColumn, paddedRow, read}
 use Rattle.alf_spec.specs.Classes.{classWindow}
 use Rattle.alf_spec.specs.Isolation.{openStep, columnStep, rowStep, diagonalStep, inside, staysInside, isolated, regionOf, sliceRegion, tileRegion, subpicRegion, outputInside}
@@ -88,7 +88,7 @@ pub record Borders : Type 0 where
   pub classes-inside : map (outputInside classes twoSubpictures (subpicRegion twoSubpictures 0)) (7 ∷ 8 ∷ []) ≡ true ∷ false ∷ []
 
 pub borders : Borders
-unfolding allBelow everyFrom elem tabulate ctbSize planeOf sliceOf subpicOf tileColumnOf tileRowOf tileDisables sliceDisables subpicDisables columnDisabled rowDisabled cornerDisabled find lineClip virtualClip sideClip clipPosition columnClip rowClip pastCorner paddedColumn paddedRow read classWindow openStep columnStep rowStep diagonalStep inside staysInside isolated regionOf sliceRegion tileRegion subpicRegion outputInside pictureSizeValid ctbSizeValid bitDepthValid chromaFormatValid layoutLengthsValid virtualListValid virtualBoundariesValid followsAt tileListValid tilesValid cornerAt cornersInRow cornersValid slicesValid subpicturesValid regionLengthValid regionValid unless layoutFault isolationFault
+unfolding allBelow everyFrom elem tabulate ctbSize planeOf sliceOf subpicOf tileColumnOf tileRowOf tileDisables sliceDisables subpicDisables stepCause columnSide rowSide cornerDisabled find lineClip virtualClip sideClip clip clipPosition columnClip rowClip pastCorner paddedColumn paddedRow read classWindow openStep columnStep rowStep diagonalStep inside staysInside isolated regionOf sliceRegion tileRegion subpicRegion outputInside pictureSizeValid ctbSizeValid bitDepthValid chromaFormatValid layoutLengthsValid virtualListValid virtualBoundariesValid followsAt tileListValid tilesValid cornerAt cornersInRow cornersValid slicesValid subpicturesValid regionLengthValid regionValid unless layoutFault isolationFault
 borders = record {
   virtual-before = refl;
   virtual-after = refl;

@@ -2,12 +2,13 @@
 -- either ratio. Assumes nothing.
 use mathlib.Core.Path.{_≡_, refl, ap}
 use mathlib.Core.Logic.{_↔_, _≢_}
-use mathlib.Core.Bool.{Bool, true}
+use mathlib.Core.Bool.{true}
 use mathlib.Core.Option.{Option, some, none}
 use Prim.Native.Nat.{ℕ, _+_, _/_, _%_, _≤_, _<_}
 use native.Mathlib.Omega.{arith}
+use Rattle.alf_spec.specs.declared.ClipCause.{ClipCause}
 use Rattle.alf_spec.specs.Geometry.{Side, before, after, Axis, samples, lumaPosition}
-use Rattle.alf_spec.specs.Boundary.{clipPosition}
+use Rattle.alf_spec.specs.Boundary.{isClosed, clipPosition}
 use Rattle.alf_spec.specs.Padding.{lowest, limit, clamped, pastCtb}
 use Rattle.alf_spec.proofs.Axes.{not-gt, Regular}
 use Rattle.alf_spec.proofs.IsolatedRegions.Ratios.{Ratio, own-le, le-own, own-lt, lt-own, Toward, toward-luma}
@@ -33,7 +34,7 @@ at-most-7 : (d : Side) (x u p : ℕ) → Toward d x u → Toward d u p → Reach
 at-most-7 before x u p t s r = omega (arith, r .low)
 at-most-7 after x u p t s r = omega (arith, r .high)
 
-module _ (a : Axis) (ok : Regular a) (ratio : Ratio (a .ratio)) (disabled : Side → Bool) (x p : ℕ) (inX : x < samples a) where
+module _ (a : Axis) (ok : Regular a) (ratio : Ratio (a .ratio)) (side : Side → ClipCause) (x p : ℕ) (inX : x < samples a) where
   abbrev X : ℕ
   X = lumaPosition a x
 
@@ -41,7 +42,7 @@ module _ (a : Axis) (ok : Regular a) (ratio : Ratio (a .ratio)) (disabled : Side
   P = lumaPosition a p
 
   abbrev clip : Side → Option ℕ
-  clip = clipPosition a X disabled
+  clip = clipPosition a X side
 
   -- the sample that stands for the neighbour, but for the corner rule
   abbrev u : ℕ
@@ -59,10 +60,10 @@ module _ (a : Axis) (ok : Regular a) (ratio : Ratio (a .ratio)) (disabled : Side
   lt-limit _ (runs n) = inX
 
   low : lowest a (clip before) ≤ x
-  low = lowest-le (clip before) (clip-ends a ok X disabled before)
+  low = lowest-le (clip before) (clip-ends a ok X side before)
 
   high : x < limit a (clip after)
-  high = lt-limit (clip after) (clip-ends a ok X disabled after)
+  high = lt-limit (clip after) (clip-ends a ok X side after)
 
   -- clamping keeps to the plane and to the clip positions
   kept : (lowest a (clip before) ≤ u) × (u < limit a (clip after)) × (u < samples a)
@@ -85,8 +86,8 @@ module _ (a : Axis) (ok : Regular a) (ratio : Ratio (a .ratio)) (disabled : Side
 
   module _ (d : Side) (t : Toward d x p) (r : Reach X P) where
     -- a multiple of 4 that is crossed is near, and there is no clip position
-    pass : (o : Option ℕ) → clip d ≡ o → Ends (First d X) (Free a X disabled d) o
-        → (b : ℕ) → b % 4 ≡ 0 → Between d X b U → Near d X b × (clip d ≡ none) × Free a X disabled d
+    pass : (o : Option ℕ) → clip d ≡ o → Ends (First d X) (Free a X side d) o
+        → (b : ℕ) → b % 4 ≡ 0 → Between d X b U → Near d X b × (clip d ≡ none) × Free a X side d
     pass _ c (stops f) b q h = absurd (stopped d _ _ _ b f q (not-passed d _ f c) h)
     pass _ c (runs n) b q h = (near-of d _ U P b r (toward-luma (a .ratio) d u p (drawn d t .1)) q h, c, n)
 
@@ -96,13 +97,13 @@ module _ (a : Axis) (ok : Regular a) (ratio : Ratio (a .ratio)) (disabled : Side
     short : (X ≤ U + 7) × (U ≤ X + 7)
     short = at-most-7 d X U P toward (toward-luma (a .ratio) d u p (drawn d t .1)) r
 
-    crossing : (b : ℕ) → b % 4 ≡ 0 → Between d X b U → Near d X b × (clip d ≡ none) × Free a X disabled d
-    crossing = pass (clip d) refl (clip-ends a ok X disabled d)
+    crossing : (b : ℕ) → b % 4 ≡ 0 → Between d X b U → Near d X b × (clip d ≡ none) × Free a X side d
+    crossing = pass (clip d) refl (clip-ends a ok X side d)
 
-    leaving : X / a .ctb ≢ U / a .ctb → Near d X (bound a d X) × (clip d ≡ none) × Free a X disabled d
+    leaving : X / a .ctb ≢ U / a .ctb → Near d X (bound a d X) × (clip d ≡ none) × Free a X side d
     leaving ne = crossing (bound a d X) (bound4 a ok X d) (leaves a ok d X U toward ne)
 
-    pub guarded : Guarded a disabled d X U
+    pub guarded : Guarded a (λ d. isClosed (side d)) d X U
     guarded = record {
       inPicture = lt-own (a .ratio) (a .size) u (kept .2);
       toward = toward;

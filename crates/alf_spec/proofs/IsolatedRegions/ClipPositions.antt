@@ -4,14 +4,17 @@ use mathlib.Core.Path.{_≡_, refl, sym, ap, _∙_}
 use mathlib.Core.Logic.{_⊎_, inl, inr}
 use mathlib.Core.Bool.{Bool, true, false, _&&_, true≢false}
 use mathlib.Core.List.{List, [], _∷_, List·Memᴰ, List·Memᴰ·head, List·Memᴰ·tail, List·Memᴰ·not-nil, List·Memᴰ·cases-cons}
-use mathlib.Core.Option.{Option, some, none}
+use mathlib.Core.Option.{Option, some, none, Option·map}
 use Prim.Native.Nat.{ℕ, _+_, _-_, _/_, _%_, _≤_, _<_}
 use native.Mathlib.Nat.{mod-eq-zero-of-dvd, dvd-of-mod-eq-zero, dvd-mul-left-of-dvd}
 use native.Mathlib.Omega.{arith}
 use lib.Dec.{leb, ltb}
 use borrow.Author.Tests.{ltb-true, leb-true, lt-ltb, le-leb}
+use Rattle.alf_spec.specs.declared.Clip.{Clip}
+use Rattle.alf_spec.specs.declared.ClipCause.{ClipCause}
+use Rattle.alf_spec.specs.declared.ClipCause.the-variants.{LineBufferBoundary, VirtualBoundary}
 use Rattle.alf_spec.specs.Geometry.{Side, before, after, Axis, ctbStart, inCtb}
-use Rattle.alf_spec.specs.Boundary.{only, _orElse_, find, near, linePosition, lineClip, virtualClip, sideClip, clipPosition}
+use Rattle.alf_spec.specs.Boundary.{isClosed, only, _orElse_, find, near, linePosition, lineClip, virtualClip, sideClip, clip, clipPosition}
 use Rattle.alf_spec.proofs.Tests.{both, and-no}
 use Rattle.alf_spec.proofs.Axes.{Regular, lower, upper, parts}
 
@@ -26,23 +29,36 @@ map-ends : {G G′ : ℕ → Type 0} {N N′ : Type 0} {o : Option ℕ} → ((e 
 map-ends h f (stops g) = stops (h _ g)
 map-ends h f (runs n) = runs (f n)
 
-module _ {G : ℕ → Type 0} where
-  or-ends : {N N′ : Type 0} {o o′ : Option ℕ} → Ends G N o → Ends G N′ o′ → Ends G (N × N′) (o orElse o′)
-  or-ends (stops g) k = stops g
-  or-ends (runs n) (stops g) = stops g
-  or-ends (runs n) (runs n′) = runs (n, n′)
+-- the same of a clip, by its position
+data ClipEnds (G : ℕ → Type 0) (N : Type 0) : Option Clip → Type 0 where
+  at : {c : Clip} → G (c .position) → ClipEnds G N (some c)
+  nowhere : N → ClipEnds G N none
 
-  only-ends : {N : Type 0} (t : Bool) (e : ℕ) → (t ≡ true → G e) → (t ≡ false → N) → Ends G N (only t e)
-  only-ends true e g n = stops (g refl)
-  only-ends false e g n = runs (n refl)
+position-ends : {G : ℕ → Type 0} {N : Type 0} {o : Option Clip} → ClipEnds G N o → Ends G N (Option·map (λ c. c .position) o)
+position-ends (at g) = stops g
+position-ends (nowhere n) = runs n
+
+where-none : {G : ℕ → Type 0} {N N′ : Type 0} {o : Option Clip} → (N → N′) → ClipEnds G N o → ClipEnds G N′ o
+where-none f (at g) = at g
+where-none f (nowhere n) = nowhere (f n)
+
+module _ {G : ℕ → Type 0} where
+  or-ends : {N N′ : Type 0} {o o′ : Option Clip} → ClipEnds G N o → ClipEnds G N′ o′ → ClipEnds G (N × N′) (o orElse o′)
+  or-ends (at g) k = at g
+  or-ends (nowhere n) (at g) = at g
+  or-ends (nowhere n) (nowhere n′) = nowhere (n, n′)
+
+  only-ends : {N : Type 0} (t : Bool) (k : ClipCause) (e : ℕ) → (t ≡ true → G e) → (t ≡ false → N) → ClipEnds G N (only t k e)
+  only-ends true k e g n = at (g refl)
+  only-ends false k e g n = nowhere (n refl)
 
   find-ends : (f : ℕ → Bool) (vs : List ℕ) → ((v : ℕ) → List·Memᴰ v vs → f v ≡ true → G v)
-      → Ends G ((v : ℕ) → List·Memᴰ v vs → f v ≡ false) (find f vs)
+      → ClipEnds G ((v : ℕ) → List·Memᴰ v vs → f v ≡ false) (find f vs)
   unfolding find
-  find-ends f [] g = runs (λ v m. absurd (List·Memᴰ·not-nil m))
+  find-ends f [] g = nowhere (λ v m. absurd (List·Memᴰ·not-nil m))
   find-ends f (v ∷ vs) g =
-      map-ends (λ e g. g) (λ n u m. pick n u (List·Memᴰ·cases-cons m))
-      (or-ends (only-ends (f v) v (g v (List·Memᴰ·head refl)) (λ q. q)) (find-ends f vs (λ u m. g u (List·Memᴰ·tail m))))
+      where-none (λ n u m. pick n u (List·Memᴰ·cases-cons m))
+      (or-ends (only-ends (f v) VirtualBoundary v (g v (List·Memᴰ·head refl)) (λ q. q)) (find-ends f vs (λ u m. g u (List·Memᴰ·tail m))))
     where
       pick : (f v ≡ false) × ((u : ℕ) → List·Memᴰ u vs → f u ≡ false) → (u : ℕ) → (u ≡ v) ⊎ List·Memᴰ u vs → f u ≡ false
       pick n u (inl q) = ap f q ∙ n .0
@@ -100,23 +116,23 @@ abbrev sideLimit : Side → ℕ
 sideLimit before = 3
 sideLimit after = 5
 
--- no virtual boundary is near on that side, and if the CTB's side is, it is not disabled
-abbrev pub Free : Axis → ℕ → (Side → Bool) → Side → Type 0
-Free a x disabled d = ((b : ℕ) → List·Memᴰ b (a .virtualBoundaries) → ¬ Near d x b) × (Near d x (bound a d x) → disabled d ≡ false)
+-- no virtual boundary is near on that side, and if the CTB's side is, it is not side
+abbrev pub Free : Axis → ℕ → (Side → ClipCause) → Side → Type 0
+Free a x side d = ((b : ℕ) → List·Memᴰ b (a .virtualBoundaries) → ¬ Near d x b) × (Near d x (bound a d x) → isClosed (side d) ≡ false)
 
--- the rule that finds the clip position e of x on that side: the line-buffer boundary, a virtual boundary, or the CTB's side where it is disabled
-pub data Rule (a : Axis) (x : ℕ) (disabled : Side → Bool) (d : Side) (e : ℕ) : Type 0 where
-  line-rule : a .hasLine ≡ true → e ≡ linePosition a x → Rule a x disabled d e
-  virtual-rule : List·Memᴰ e (a .virtualBoundaries) → Rule a x disabled d e
-  side-rule : e ≡ bound a d x → disabled d ≡ true → Rule a x disabled d e
+-- the rule that finds the clip position e of x on that side: the line-buffer boundary, a virtual boundary, or the CTB's side where it is side
+pub data Rule (a : Axis) (x : ℕ) (side : Side → ClipCause) (d : Side) (e : ℕ) : Type 0 where
+  line-rule : a .hasLine ≡ true → e ≡ linePosition a x → Rule a x side d e
+  virtual-rule : List·Memᴰ e (a .virtualBoundaries) → Rule a x side d e
+  side-rule : e ≡ bound a d x → isClosed (side d) ≡ true → Rule a x side d e
 
-pub record Found (a : Axis) (x : ℕ) (disabled : Side → Bool) (d : Side) (e : ℕ) : Type 0 where
+pub record Found (a : Axis) (x : ℕ) (side : Side → ClipCause) (d : Side) (e : ℕ) : Type 0 where
   pub first : First d x e
-  pub rule : Rule a x disabled d e
+  pub rule : Rule a x side d e
 
 -- no rule finds one
-pub record Clear (a : Axis) (x : ℕ) (disabled : Side → Bool) (d : Side) : Type 0 where
-  pub free : Free a x disabled d
+pub record Clear (a : Axis) (x : ℕ) (side : Side → ClipCause) (d : Side) : Type 0 where
+  pub free : Free a x side d
   pub noLine : a .hasLine ≡ true → ¬ Near d x (linePosition a x)
 
 module _ (a : Axis) (ok : Regular a) (x : ℕ) where
@@ -140,52 +156,56 @@ module _ (a : Axis) (ok : Regular a) (x : ℕ) where
   near-side before n h k = lt-ltb (inCtb a x) n (omega (arith, parts a x))
   near-side after n h k = lt-ltb (a .ctb - inCtb a x) n (omega (arith, parts a x))
 
-  module _ (disabled : Side → Bool) where
-    found-line : (d : Side) → Ends (Found a x disabled d) (a .hasLine ≡ true → ¬ Near d x (linePosition a x)) (lineClip a x d)
+  module _ (side : Side → ClipCause) where
+    found-line : (d : Side) → ClipEnds (Found a x side d) (a .hasLine ≡ true → ¬ Near d x (linePosition a x)) (lineClip a x d)
     unfolding lineClip
-    found-line before = only-ends _ (linePosition a x)
+    found-line before = only-ends _ LineBufferBoundary (linePosition a x)
         (λ q.
         let h = both (a .hasLine) (leb (a .ctb - 4) (inCtb a x)) q in
         let l = leb-true (a .ctb - 4) (inCtb a x) (h .1) in
         record { first = omega (arith, line4, ok .big, upper a ok x, parts a x); rule = line-rule (h .0) refl })
         (λ q line n.
         true≢false (sym (le-leb (a .ctb - 4) (inCtb a x) (omega (arith, parts a x))) ∙ and-no (a .hasLine) (leb (a .ctb - 4) (inCtb a x)) q line))
-    found-line after = only-ends _ (linePosition a x)
+    found-line after = only-ends _ LineBufferBoundary (linePosition a x)
         (λ q.
         let h = both (a .hasLine) (near after x (linePosition a x)) q in
         record { first = near-first after x (linePosition a x) line4 (near-yes after x (linePosition a x) (h .1)); rule = line-rule (h .0) refl })
         (λ q line n. true≢false (sym (yes-near after x (linePosition a x) n) ∙ and-no (a .hasLine) (near after x (linePosition a x)) q line))
 
     found-virtual : (d : Side)
-        → Ends (Found a x disabled d) ((b : ℕ) → List·Memᴰ b (a .virtualBoundaries) → ¬ Near d x b) (virtualClip a x d)
+        → ClipEnds (Found a x side d) ((b : ℕ) → List·Memᴰ b (a .virtualBoundaries) → ¬ Near d x b) (virtualClip a x d)
     unfolding virtualClip
     found-virtual d =
-        map-ends (λ e g. g) (λ far b m n. true≢false (sym (yes-near d x b n) ∙ far b m))
+        where-none (λ far b m n. true≢false (sym (yes-near d x b n) ∙ far b m))
         (find-ends (near d x) (a .virtualBoundaries) (λ v m q.
         let v8 = ok .virtual8 v m in
         record { first = near-first d x v (omega arith) (near-yes d x v q); rule = virtual-rule m }))
 
     tested-side : (d : Side) (n : ℕ) → n ≤ sideLimit d → sideLimit d ≤ n
-        → Ends (Found a x disabled d) (Near d x (bound a d x) → disabled d ≡ false) (only (sideTest a d x n && disabled d) (bound a d x))
+        → ClipEnds (Found a x side d) (Near d x (bound a d x) → isClosed (side d) ≡ false) (only (sideTest a d x n && isClosed (side d)) (side d) (bound a d x))
     tested-side d n h k =
-        only-ends (sideTest a d x n && disabled d) (bound a d x)
+        only-ends (sideTest a d x n && isClosed (side d)) (side d) (bound a d x)
         (λ q.
-        let t = both (sideTest a d x n) (disabled d) q in
+        let t = both (sideTest a d x n) (isClosed (side d)) q in
         record { first = near-first d x (bound a d x) (bound4 d) (side-near d n h (t .0)); rule = side-rule refl (t .1) })
-        (λ q near. and-no (sideTest a d x n) (disabled d) q (near-side d n k near))
+        (λ q near. and-no (sideTest a d x n) (isClosed (side d)) q (near-side d n k near))
 
-    found-side : (d : Side) → Ends (Found a x disabled d) (Near d x (bound a d x) → disabled d ≡ false) (sideClip a x disabled d)
+    found-side : (d : Side) → ClipEnds (Found a x side d) (Near d x (bound a d x) → isClosed (side d) ≡ false) (sideClip a x side d)
     unfolding sideClip
     found-side before = tested-side before _ (omega arith) (omega arith)
     found-side after = tested-side after _ (omega arith) (omega arith)
 
-    pub clip-found : (d : Side) → Ends (Found a x disabled d) (Clear a x disabled d) (clipPosition a x disabled d)
-    unfolding clipPosition
-    clip-found before =
-        map-ends (λ e g. g) (λ n. record { free = n .1; noLine = n .0 }) (or-ends (found-line before) (or-ends (found-virtual before) (found-side before)))
-    clip-found after =
-        map-ends (λ e g. g) (λ n. record { free = (n .0, n .1 .1); noLine = n .1 .0 })
+    by-rules : (d : Side) → ClipEnds (Found a x side d) (Clear a x side d) (clip a x side d)
+    unfolding clip
+    by-rules before =
+        where-none (λ n. record { free = n .1; noLine = n .0 }) (or-ends (found-line before) (or-ends (found-virtual before) (found-side before)))
+    by-rules after =
+        where-none (λ n. record { free = (n .0, n .1 .1); noLine = n .1 .0 })
         (or-ends (found-virtual after) (or-ends (found-line after) (found-side after)))
 
-    pub clip-ends : (d : Side) → Ends (First d x) (Free a x disabled d) (clipPosition a x disabled d)
+    pub clip-found : (d : Side) → Ends (Found a x side d) (Clear a x side d) (clipPosition a x side d)
+    unfolding clipPosition
+    clip-found d = position-ends (by-rules d)
+
+    pub clip-ends : (d : Side) → Ends (First d x) (Free a x side d) (clipPosition a x side d)
     clip-ends d = map-ends (λ e f. f .first) (λ n. n .free) (clip-found d)

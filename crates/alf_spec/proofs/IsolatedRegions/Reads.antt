@@ -8,7 +8,7 @@ use native.Mathlib.Decide.{decLe}
 use native.Mathlib.Omega.{arith}
 use Rattle.alf_spec.specs.Input.{Layout}
 use Rattle.alf_spec.specs.Geometry.{Side, before, after, Plane, planeOf, lumaPosition, ctbAt}
-use Rattle.alf_spec.specs.Boundary.{columnDisabled, rowDisabled, cornerDisabled}
+use Rattle.alf_spec.specs.Boundary.{columnSide, columnDisabled, rowSide, rowDisabled, cornerDisabled}
 use Rattle.alf_spec.specs.Padding.{isNone, ctbEnd, pastCtb, columnClip, rowClip, clampedColumn, clampedRow, pastCorner, paddedColumn, paddedRow, read}
 use Rattle.alf_spec.specs.Isolation.{isolated}
 use Rattle.alf_spec.proofs.Tests.{both, and-no}
@@ -77,11 +77,11 @@ module _ (l : Layout) (ok : Accepted l) (region : List ℕ) (iso : isolated l re
 
     guardedX : Guarded (g .columns) (columnDisabled l (ctbAt g x y)) d X (lumaPosition (g .columns) u)
     unfolding columnClip
-    guardedX = guarded (g .columns) okX ratioX (columnDisabled l (ctbAt g x y)) x p (i .column) d tx rx
+    guardedX = guarded (g .columns) okX ratioX (columnSide l (ctbAt g x y)) x p (i .column) d tx rx
 
     guardedY : Guarded (g .rows) (rowDisabled l (ctbAt g x y)) e Y (lumaPosition (g .rows) v)
     unfolding rowClip
-    guardedY = guarded (g .rows) okY ratioY (rowDisabled l (ctbAt g x y)) y q (i .row) e ty ry
+    guardedY = guarded (g .rows) okY ratioY (rowSide l (ctbAt g x y)) y q (i .row) e ty ry
 
     wayX : Way (g .columns) (columnDisabled l (ctbAt g x y)) d X (lumaPosition (g .columns) u)
     wayX =
@@ -115,8 +115,8 @@ module _ (l : Layout) (ok : Accepted l) (region : List ℕ) (iso : isolated l re
         → Y / g .rows .ctb ≢ lumaPosition (g .rows) v / g .rows .ctb → d ≡ e → cornerDisabled l (ctbAt g x y) d ≡ false
     unfolding pastCorner columnClip rowClip
     uncornered t nx ny s =
-        let cx = crossed (g .columns) okX ratioX (columnDisabled l (ctbAt g x y)) x p (i .column) d tx rx nx in
-        let cy = crossed (g .rows) okY ratioY (rowDisabled l (ctbAt g x y)) y q (i .row) e ty ry ny in
+        let cx = crossed (g .columns) okX ratioX (columnSide l (ctbAt g x y)) x p (i .column) d tx rx nx in
+        let cy = crossed (g .rows) okY ratioY (rowSide l (ctbAt g x y)) y q (i .row) e ty ry ny in
         let pastY : pastCtb (g .rows) d y v ≡ true = rw s (cy .1) in
         let noneY : isNone (rowClip l g x y d) ≡ true = rw s (ap isNone (cy .0)) in
         and-no _ _ (and-no _ _ (and-no _ _ (and-no _ _ t (cx .1)) pastY) (ap isNone (cx .0))) noneY

@@ -8,7 +8,7 @@ use lib.ListN.{replicate, getD}
 use Rattle.alf_spec.specs.Input.{Layout}
 use Rattle.alf_spec.specs.Lists.{allBelow, everyFrom, elem, tabulate}
 use Rattle.alf_spec.specs.Geometry.{ctbSize, planeOf}
-use Rattle.alf_spec.specs.Boundary.{sliceOf, subpicOf, tileColumnOf, tileRowOf, tileDisables, sliceDisables, subpicDisables, columnDisabled, rowDisabled}
+use Rattle.alf_spec.specs.Boundary.{sliceOf, subpicOf, tileColumnOf, tileRowOf, tileDisables, sliceDisables, subpicDisables, stepCause, columnSide, rowSide}
 use Rattle.alf_spec.specs.Isolation.{openStep, columnStep, rowStep, diagonalStep, inside, staysInside, isolated, regionOf, subpicRegion}
 use Rattle.alf_spec.specs.Faults.{pictureSizeValid, ctbSizeValid, bitDepthValid, chromaFormatValid, layoutLengthsValid, virtualListValid, virtualBoundariesValid, followsAt, tileListValid, tilesValid, cornersValid, slicesValid, subpicturesValid, regionLengthValid, regionValid, unless, layoutFault, isolationFault}
 use Rattle.alf_spec.proofs.Tests.{at-all}
@@ -52,7 +52,7 @@ pub record SmallRegions : Type 0 where
   pub uncut : isolated (twoBlocks []) leftBlock ≡ false
 
 pub small-regions : SmallRegions
-unfolding allBelow everyFrom elem tabulate ctbSize planeOf sliceOf subpicOf tileColumnOf tileRowOf tileDisables sliceDisables subpicDisables columnDisabled rowDisabled openStep columnStep rowStep diagonalStep inside staysInside isolated regionOf subpicRegion pictureSizeValid ctbSizeValid bitDepthValid chromaFormatValid layoutLengthsValid virtualListValid virtualBoundariesValid followsAt tileListValid tilesValid cornersValid slicesValid subpicturesValid regionLengthValid regionValid unless layoutFault isolationFault
+unfolding allBelow everyFrom elem tabulate ctbSize planeOf sliceOf subpicOf tileColumnOf tileRowOf tileDisables sliceDisables subpicDisables stepCause columnSide rowSide openStep columnStep rowStep diagonalStep inside staysInside isolated regionOf subpicRegion pictureSizeValid ctbSizeValid bitDepthValid chromaFormatValid layoutLengthsValid virtualListValid virtualBoundariesValid followsAt tileListValid tilesValid cornersValid slicesValid subpicturesValid regionLengthValid regionValid unless layoutFault isolationFault
 small-regions = record {
   left-accepted = refl;
   left = refl;

@@ -9,10 +9,11 @@ use borrow.Author.Tests.{eqb-true}
 use Rattle.alf_spec.specs.declared.Ctb.{Ctb}
 use Rattle.alf_spec.specs.Lists.{every}
 use Rattle.alf_spec.specs.Input.{Layout}
-use Rattle.alf_spec.specs.Boundary.{sliceOf, subpicOf, tileColumnOf, tileRowOf, tileDisables, sliceDisables, subpicDisables, disables, besideCtb}
+use Rattle.alf_spec.specs.Boundary.{sliceOf, subpicOf, tileColumnOf, tileRowOf, tileDisables, sliceDisables, subpicDisables, besideCtb}
 use Rattle.alf_spec.specs.Isolation.{isolated, sliceRegion, tileRegion, subpicRegion}
 use Rattle.alf_spec.specs.Faults.{sliceCorner, subpicCorner, cornersValid, slicesValid, subpicturesValid}
-use Rattle.alf_spec.proofs.Tests.{both, neither}
+use Rattle.alf_spec.proofs.Tests.{both}
+use Rattle.alf_spec.proofs.Causes.{not-disabled}
 use Rattle.alf_spec.proofs.Accepted.{Accepted}
 use Rattle.alf_spec.proofs.IsolatedRegions.WholeCtbs.{Kept, kept-isolated}
 use Rattle.alf_spec.proofs.IsolatedRegions.CornerRules.{three-alike, slice-corner, subpic-corner}
@@ -21,13 +22,6 @@ use Rattle.alf_spec.proofs.IsolatedRegions.CornerRules.{three-alike, sl
 alike : (same off : Bool) → (not same && off) ≡ false → off ≡ true → same ≡ true
 alike true off h q = refl
 alike false off h q = sym h ∙ q
-
-not-disabled : (l : Layout) (c m : Ctb) → disables l c m ≡ false
-    → (tileDisables l c m ≡ false) × (sliceDisables l c m ≡ false) × (subpicDisables l c m ≡ false)
-not-disabled l c m h =
-    let p = neither (tileDisables l c m) _ h in
-    let q = neither (sliceDisables l c m) _ (p .1) in
-    (p .0, q .0, q .1)
 
 module _ (l : Layout) (ok : Accepted l) where
   slice-corners : cornersValid sliceCorner l (l .sliceMap) ≡ true

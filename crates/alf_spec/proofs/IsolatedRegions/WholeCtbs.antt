@@ -11,7 +11,7 @@ use borrow.Author.Tests.{ne-eqb, not-true}
 use Rattle.alf_spec.specs.declared.Ctb.{Ctb}
 use Rattle.alf_spec.specs.Input.{Layout}
 use Rattle.alf_spec.specs.Geometry.{Side, sameSide, next, gap, hasNext, Axis, planeOf, lumaPlane, blockPlane, lumaPosition, ctbCount, ctbAt, ctbColumns, ctbRows}
-use Rattle.alf_spec.specs.Boundary.{sliceDisables, disables, besideCtb, stackedCtb, columnDisabled, rowDisabled}
+use Rattle.alf_spec.specs.Boundary.{isClosed, sliceDisables, stepCause, besideCtb, stackedCtb, columnSide, columnDisabled, rowSide, rowDisabled}
 use Rattle.alf_spec.specs.Isolation.{openStep, columnStep, rowStep, diagonalStep, inside, staysInside, isolated, regionOf}
 use Rattle.alf_spec.proofs.Tests.{both, imply, at-all}
 use Rattle.alf_spec.proofs.Lists.{tabulate-at}
@@ -78,19 +78,19 @@ cornerCtb d e c = record { column = next d (c .column); row = next e (c .row) }
 -- the CTBs that pass the test are not left over a side that is not disabled and, where the CTBs beside and above or below also pass, not over
 -- the corner between those two
 pub record Kept (l : Layout) (P : Ctb → Bool) : Type 0 where
-  pub side : (c n : Ctb) → disables l c n ≡ false → P c ≡ true → P n ≡ true
+  pub side : (c n : Ctb) → isClosed (stepCause l c n) ≡ false → P c ≡ true → P n ≡ true
   pub corner : (d e : Side) (c : Ctb) → hasNext (ctbColumns l) d (c .column) ≡ true → hasNext (ctbRows l) e (c .row) ≡ true
       → (sameSide d e && sliceDisables l c (cornerCtb d e c)) ≡ false
       → P c ≡ true → P (besideCtb d c) ≡ true → P (stackedCtb e c) ≡ true → P (cornerCtb d e c) ≡ true
 
 module _ (l : Layout) (P : Ctb → Bool) (kept : Kept l P) (c : Ctb) (here : P c ≡ true) where
   beside : (d : Side) (q : ℕ) → Move (ctbColumns l) (columnDisabled l c) d (c .column) q → P (record { column = q; row = c .row }) ≡ true
-  unfolding columnDisabled
+  unfolding columnSide
   beside d _ stays = here
   beside d _ (crosses h off) = kept .side c (besideCtb d c) (simp h at off) here
 
   stacked : (e : Side) (r : ℕ) → Move (ctbRows l) (rowDisabled l c) e (c .row) r → P (record { column = c .column; row = r }) ≡ true
-  unfolding rowDisabled
+  unfolding rowSide
   stacked e _ stays = here
   stacked e _ (crosses h off) = kept .side c (stackedCtb e c) (simp h at off) here
 

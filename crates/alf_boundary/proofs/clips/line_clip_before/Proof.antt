@@ -11,10 +11,10 @@ unfolding lineClip
 line-clip-before-spec =
     tie.close
     (tie.spec
-    (λ c. search needs)
-    (λ c. search needs)
     (λ c κs. search needs)
     (λ c. search needs)
     (λ c. omega (arith, c .ctb-start .ensures, div-mul-le-self (c .before .args .x) (c .before .args .ctb)))
+    (λ c. search needs)
+    (λ c. search needs)
     (λ c κs. search needs)
     (λ c size boundaries ratio. rw (← c .before .ctb-start .ensures) (c .only-if .ensures)))

@@ -15,6 +15,8 @@ side-clip-after-spec =
     (λ c. search needs)
     (λ c. let h : 0 < c .args .ctb = omega arith in omega (arith, mod-lt (c .args .x) h))
     (λ c κs. search needs)
-    (λ c. omega (arith, c .ctb-start .ensures, div-mul-le-self (c .before .args .x) (c .before .args .ctb)))
     (λ c κs. search needs)
-    (λ c size boundaries line ratio off e. rw (e, ← c .before .ctb-start .ensures) (c .only-if .ensures)))
+    (λ c. omega (arith, c .ctb-start .ensures, div-mul-le-self (c .before .before .args .x) (c .before .before .args .ctb)))
+    (λ c κs. search needs)
+    (λ c size boundaries line ratio sides e.
+    rw (e, ← c .before .before .is-closed .ensures, ← c .before .ctb-start .ensures) (c .only-if .ensures)))

@@ -12,4 +12,6 @@ side-clip-before-spec =
     (λ c. search needs)
     (λ c κs. search needs)
     (λ c κs. search needs)
-    (λ c size boundaries line ratio off e. rw (e, ← c .before .ctb-start .ensures) (c .only-if .ensures)))
+    (λ c κs. search needs)
+    (λ c size boundaries line ratio sides e.
+    rw (e, ← c .before .before .is-closed .ensures, ← c .before .ctb-start .ensures) (c .only-if .ensures)))

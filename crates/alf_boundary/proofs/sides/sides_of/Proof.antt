@@ -65,10 +65,10 @@ returns c columns rows =
     let hasRight = has-after (g .columns) (n .column) in
     let hasBelow = has-after (g .rows) (n .row) in
     record {
-      left = column-side l g h n o before (near1 .neighbour-at .ensures) hasLeft x (side1 .side-disabled .ensures);
-      right = column-side l g h n o after (near2 .neighbour-at2 .ensures) hasRight (add-one _) (side2 .side-disabled2 .ensures);
-      top = row-side l g h n o before (near3 .neighbour-at3 .ensures) hasAbove y (side3 .side-disabled3 .ensures);
-      bottom = row-side l g h n o after (near4 .neighbour-at4 .ensures) hasBelow (add-one _) (side4 .side-disabled4 .ensures);
+      left = column-side l g h n o before (near1 .neighbour-at .ensures) hasLeft x (side1 .side-cause .ensures);
+      right = column-side l g h n o after (near2 .neighbour-at2 .ensures) hasRight (add-one _) (side2 .side-cause2 .ensures);
+      top = row-side l g h n o before (near3 .neighbour-at3 .ensures) hasAbove y (side3 .side-cause3 .ensures);
+      bottom = row-side l g h n o after (near4 .neighbour-at4 .ensures) hasBelow (add-one _) (side4 .side-cause4 .ensures);
       upperLeft = corner l g h n o before (near5 .neighbour-at5 .ensures) hasLeft x hasAbove y (corner1 .corner-disabled .ensures);
       lowerRight = corner l g h n o after (known .neighbour-at6 .ensures) hasRight (add-one _) hasBelow (add-one _) (c .corner-disabled2 .ensures);
     }

@@ -2,7 +2,7 @@
 use mathlib.Core.Path.{_≡_, refl, ap, _∙_}
 use mathlib.Core.Bool.{false}
 use mathlib.Core.Logic.{inl}
-use Prim.Native.Nat.{ℕ, _-_, _/_}
+use Prim.Native.Nat.{ℕ, _-_, _/_, _≤_}
 use native.Mathlib.Nat.{div-one}
 use native.Mathlib.Omega.{arith}
 use borrow.Author.Needs.{needs}
@@ -35,11 +35,15 @@ abbrev μ-loop : tie.MeasureT-loop
 
 -- what the function is given
 abbrev start : tie.In-loop Inv-loop μ-loop → tie.Start Inv-loop μ-loop
-start c = c .before .before .before .before .before .before .before .before .before .before .before .before .before
+start c = c .before .before .before .before .before .before .before .before .before .before .before .before
+
+-- a CTB's place in the grid
+few : (s : tie.Start Inv-loop μ-loop) → s .args .ctb .column ≤ 128
+few s = place-bound (s .pre .0 .grid .ctbLow) (width-bounds (s .args .picture) (s .pre .0 .sizes) (s .pre .0 .ctbSize) .1) (s .pre .5)
 
 loop-holds : tie.Need-loop-holds Inv-loop μ-loop
 loop-holds c =
-    let s = c .before .before .before .before .before .before .before .before .before .before .before in (
+    let s = c .before .before .before .before .before .before .before .before .before .before in (
       walk-start (omega arith) (s .pre .5),
       refl,
       refl,
@@ -57,7 +61,7 @@ found c =
     let s = start (c .before) in
     let given = s .pre .0 in
     turn (columns-regular (given .grid) (given .sizes) (given .ctbSize) (s .pre .3) 1) whole (given .grid .ctbHigh) (c .before .before .loop .inv .0)
-    (omega (arith, c .before .before .before .least .ensures, c .before .loop-test .taken)) (c .column-piece .ensures)
+    (omega (arith, c .before .before .before .ctb-limit .ensures, c .before .loop-test .taken)) (c .column-piece .ensures)
 
 filter-piece-requires : tie.Need-filter-piece-requires Inv-loop μ-loop
 filter-piece-requires c κs =
@@ -95,7 +99,7 @@ loop-again c =
 returns : tie.Need-returns Inv-loop μ-loop
 returns c =
     let inv = c .before .loop .inv in
-    let done = walk-done whole (inv .0) (omega (arith, c .before .before .least .ensures, c .loop-test .left)) ∙ div-one _ in
+    let done = walk-done whole (inv .0) (omega (arith, c .before .before .ctb-limit .ensures, c .loop-test .left)) ∙ div-one _ in
     (rw done at (inv .6), inv .3)
 
 pub filter-strip-spec : {M : Type 1} → statement M
@@ -105,16 +109,11 @@ filter-strip-spec =
     Inv-loop
     μ-loop
     (λ c. omega arith)
-    (λ c.
-    let s = c .before .before .before .before .before .before .before .before .before .before in
-    omega (arith, width-bounds (s .args .picture) (s .pre .0 .sizes) (s .pre .0 .ctbSize), s .pre .0 .grid .ctbHigh))
-    (λ c κs. search needs)
+    (λ c κs. let s = c .before .before .before .before .before .before .before .before .before in (s .pre .0 .grid .ctbHigh, few s))
     loop-holds
     (λ c κs.
     let s = start c in
-    let most = width-bounds (s .args .picture) (s .pre .0 .sizes) (s .pre .0 .ctbSize) in
-    let few = place-bound (s .pre .0 .grid .ctbLow) (most .1) (s .pre .5) in
-    (s .pre .0 .grid, omega arith, omega arith, few, omega (arith, c .loop-test .taken, c .before .before .least .ensures)))
+    (s .pre .0 .grid, omega arith, omega arith, few s, omega (arith, width-bounds (s .args .picture) (s .pre .0 .sizes) (s .pre .0 .ctbSize), c .loop-test .taken, c .before .before .ctb-limit .ensures)))
     filter-piece-requires
     loop-less
     loop-again

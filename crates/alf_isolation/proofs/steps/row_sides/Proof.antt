@@ -13,6 +13,21 @@ row-sides-spec =
     (λ c. search needs)
     (λ c κs. search needs)
     (λ c κs. search needs)
+    (λ c κs. search needs)
+    (λ c κs. search needs)
+    (λ c κs. search needs)
+    (λ c κs. search needs)
     (λ c. search needs)
     (λ c. search needs)
-    (λ c. rw (c .before .before .before .step-is-open .ensures, c .before .before .step-is-open2 .ensures)))
+    (λ c.
+    let bottom = c .before .before in
+    let top = bottom .before .before in
+    let right = top .before .before in
+    rw (
+      bottom .step-is-open2 .ensures,
+      bottom .before .is-closed4 .ensures,
+      top .step-is-open .ensures,
+      top .before .is-closed3 .ensures,
+      right .is-closed2 .ensures,
+      right .before .is-closed .ensures,
+    )))

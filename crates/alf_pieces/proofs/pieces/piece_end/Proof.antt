@@ -1,28 +1,55 @@
--- `alf_pieces::pieces::piece_end` meets its contract. Assumes nothing.
-use Prim.Native.Nat.{_*_, _≤_}
+-- `alf_pieces::pieces::piece_end` meets its contract: the loop is left behind the first block with a clip position after it. Assumes nothing.
+use Prim.Native.Nat.{_+_, _-_, _*_, _≤_, min}
 use native.Mathlib.Nat.{mul-le-mul}
 use native.Mathlib.Omega.{arith}
 use borrow.Author.Needs.{needs}
-use Rattle.alf_pieces.specs.Pieces.{pieceEnd}
+use borrow.Author.Tests.{not-true, not-false}
+use Rattle.alf_pieces.proofs.PieceScan.{Scanned, scan-start, scan-on, scan-stop, scan-done}
 use Rattle.alf_pieces.proofs.pieces.piece_end.Statement.{statement}
 use Rattle.alf_pieces.proofs.pieces.piece_end.Tie as tie
 
--- where the CTB begins
-first-fits : (s : tie.Start) → s .args .q * s .args .ctb ≤ 16384
-first-fits s = mul-le-mul (s .pre .2) (s .pre .1)
+abbrev Inv-loop : tie.InvT-loop
+Inv-loop size ctb line boundaries side q x limit end₀ end = Scanned size ctb line boundaries side q x end
+
+abbrev μ-loop : tie.MeasureT-loop
+μ-loop size ctb line boundaries side q x limit end₀ end = limit - end
+
+-- where the CTB ends
+limit-small : (c : tie.After-ctb-limit Inv-loop μ-loop) → c .ctb-limit .result ≤ 16512
+limit-small c = omega (arith, c .ctb-limit .ensures, mul-le-mul (c .before .before .pre .2) (c .before .before .pre .1))
+
+-- a whole block is left
+one-left : (c : tie.In-loop Inv-loop μ-loop) → let s = c .before .before .before .before .args in c .before .loop .end + 4 ≤ min (s .q * s .ctb + s .ctb) (s .size)
+one-left c = omega (arith, c .loop-test .taken, c .before .before .ctb-limit .ensures)
 
 pub piece-end-spec : {M : Type 1} → statement M
-unfolding pieceEnd
 piece-end-spec =
     tie.close
     (tie.spec
-    (λ c. omega (arith, first-fits (c .before)))
-    (λ c. omega (arith, first-fits (c .before)))
+    Inv-loop
+    μ-loop
     (λ c κs. search needs)
-    (λ c. search needs)
-    (λ c. omega (arith, first-fits (c .before .before .before)))
+    (λ c. scan-start _ _ _ _ _ _ _ (c .before .before .pre .3))
+    (λ c. omega (arith, c .loop .inv .small))
+    (λ c. omega (arith, c .before .loop .inv .small))
+    (λ c. omega (arith, c .before .loop .inv .small))
+    (λ c κs.
+    let s = c .before .before .before .before in
+    (s .pre .0, s .pre .1, omega (arith, c .loop-test .taken, limit-small (c .before .before))))
     (λ c κs. search needs)
-    (λ c κs. search needs)
-    (λ c ratio. rw (c .before .before .if1 .taken, ← c .before .before .before .least .ensures, ← c .before .nearer .ensures) (c .next-boundary .ensures))
-    (λ c κs. search needs)
-    (λ c ratio. rw (c .before .if1 .left, ← c .before .before .least .ensures) (c .next-boundary2 .ensures)))
+    (λ c.
+    let asked = c .before in
+    let block = asked .before .before in (
+      omega (arith, block .loop-test .taken, limit-small (block .before .before)),
+      scan-stop (block .before .loop .inv) (one-left block) (asked .before .clip-after .result)
+          (λ ratio sides e. asked .before .clip-after .ensures (block .before .before .before .before .args .size) ratio sides e) (asked .is-open .ensures)
+          (not-true (asked .is-open .result) (c .if1 .taken)),
+    ))
+    (λ c. omega (arith, c .before .before .before .loop-test .taken))
+    (λ c.
+    let asked = c .before in
+    let block = asked .before .before in
+    scan-on (block .before .loop .inv) (one-left block) (asked .before .clip-after .result)
+    (λ ratio sides e. asked .before .clip-after .ensures (block .before .before .before .before .args .size) ratio sides e) (asked .is-open .ensures)
+    (not-false (asked .is-open .result) (c .if1 .left)) (omega (arith, block .loop-test .taken, limit-small (block .before .before))))
+    (λ c. (c .before .loop .inv .small, scan-done (c .before .loop .inv) (omega (arith, c .loop-test .left, c .before .before .ctb-limit .ensures)))))

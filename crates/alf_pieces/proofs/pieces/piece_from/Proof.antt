@@ -1,32 +1,53 @@
--- `alf_pieces::pieces::piece_from` meets its contract. Assumes nothing.
+-- `alf_pieces::pieces::piece_from` meets its contract: the rule at the first sample, and at the last. Assumes nothing.
+use mathlib.Core.Path.{refl}
 use Prim.Native.Nat.{_*_, _≤_}
 use native.Mathlib.Nat.{mul-le-mul}
 use native.Mathlib.Omega.{arith}
 use borrow.Author.Needs.{needs}
-use Rattle.alf_pieces.specs.Pieces.{cutAt, pieceAt}
+use Rattle.alf_spec.specs.Boundary.{clipPosition}
+use Rattle.alf_pieces.specs.Pieces.{pieceAt, either}
 use Rattle.alf_pieces.proofs.pieces.piece_from.Statement.{statement}
 use Rattle.alf_pieces.proofs.pieces.piece_from.Tie as tie
 
--- where the CTB begins
-first-fits : (s : tie.Start) → s .args .q * s .args .ctb ≤ 16384
-first-fits s = mul-le-mul (s .pre .4) (s .pre .1)
+-- where the piece begins
+at-small : (s : tie.Start) → s .args .x * s .args .ratio ≤ 8192
+at-small s = mul-le-mul (s .pre .5) (s .pre .3)
+
+returns : tie.Need-returns
+unfolding pieceAt clipPosition
+returns c =
+    let low = c .before in
+    let above = low .before in
+    let below = above .before .before in
+    let stop = below .before in
+    let s = stop .before .before in
+    let sides = either (s .args .side-before) (s .args .side-after) in
+    let end = stop .piece-end .ensures .1 (s .args .ratio) sides refl in
+    let lower = below .clip-before .ensures (s .args .size) (s .args .ratio) sides refl in
+    let upper = above .clip-after .ensures (s .args .size) (s .args .ratio) sides refl in
+    let last = above .before .previous .ensures in
+    rw (
+      ← end,
+      ← last,
+      ← lower,
+      ← upper,
+      low .lowest .ensures (s .args .size) (s .args .ctb) (s .args .boundaries .now) (s .args .line),
+      c .limit .ensures (s .args .ctb) (s .args .boundaries .now) (s .args .line),
+    )
 
 pub piece-from-spec : {M : Type 1} → statement M
-unfolding cutAt pieceAt
 piece-from-spec =
     tie.close
     (tie.spec
-    (λ c. omega (arith, mul-le-mul (c .before .pre .5) (c .before .pre .3)))
-    (λ c. omega (arith, first-fits (c .before)))
+    (λ c. omega (arith, at-small (c .before)))
+    (λ c κs. let s = c .before in (s .pre .0, s .pre .1, s .pre .4, omega (arith, at-small s)))
+    (λ c κs. let s = c .before .before in (s .pre .0, s .pre .1, omega (arith, at-small s)))
     (λ c κs. search needs)
+    (λ c κs.
+    let stop = c .before .before in
+    let s = stop .before .before in
+    (s .pre .0, s .pre .1, omega (arith, c .previous .ensures, stop .piece-end .ensures .0)))
     (λ c. search needs)
     (λ c κs. search needs)
     (λ c κs. search needs)
-    (λ c. omega (arith, first-fits (c .before .before .before .before)))
-    (λ c κs. search needs)
-    (λ c. search needs)
-    (λ c κs. search needs)
-    (λ c.
-    let s = c .before .before .before .before .before .before in
-    let stop = c .before .before .before .before .piece-end .ensures (s .args .ratio) in
-    rw (← stop, ← c .before .before .before .is-cut .ensures, ← c .before .is-cut2 .ensures, ← c .before .before .choice .ensures, ← c .choice2 .ensures)))
+    returns)

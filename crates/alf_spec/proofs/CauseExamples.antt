@@ -1,0 +1,67 @@
+-- 02, card 1, worked out: what closes the sides of a sample beside each kind of border, which cause is named where several apply, and when a position
+-- is refused. Assumes nothing.
+use mathlib.Core.Path.{_≡_, refl}
+use mathlib.Core.Bool.{Bool, true, false}
+use mathlib.Core.List.{List, [], _∷_, map}
+use Prim.Native.Nat.{ℕ}
+use lib.ListN.{replicate}
+use Rattle.alf_spec.specs.Input.{Layout, layoutOf}
+use Rattle.alf_spec.specs.Lists.{allBelow, everyFrom}
+use Rattle.alf_spec.specs.Geometry.{ctbSize, planeOf}
+use Rattle.alf_spec.specs.Boundary.{sliceOf, subpicOf, tileColumnOf, tileRowOf, tileDisables, sliceDisables, subpicDisables, stepCause, columnSide, rowSide, find, lineClip, virtualClip, sideClip, clip}
+use Rattle.alf_spec.specs.Causes.{columnCause, rowCause, causesAt}
+use Rattle.alf_spec.specs.Faults.{pictureSizeValid, ctbSizeValid, bitDepthValid, chromaFormatValid, layoutLengthsValid, apartAt, virtualListValid, virtualBoundariesValid, followsAt, tileListValid, tilesValid, cornerAt, cornersInRow, cornersValid, slicesValid, subpicturesValid, positionValid, unless, layoutFault, causesFault}
+use Rattle.alf_spec.specs.Answers.{causeNumbers}
+
+-- 64 by 64 samples, two by two CTBs of 32. The right CTBs are of another tile and subpicture than the left ones, and all but the first are of another
+-- slice. Subpicture 0, on the left, has its switch off; that of subpicture 1 is on. What varies: the tile and the slice switch, and the virtual boundaries.
+abbrev quarters : Bool → Bool → List ℕ → List ℕ → Layout
+quarters tiles slices columns rows =
+    layoutOf (record {
+      width = 64;
+      height = 64;
+      «ctb_log2» = 5;
+      «bit_depth» = 8;
+      «chroma_format» = 0;
+      «slice_count» = 2;
+      «across_tiles» = tiles;
+      «across_slices» = slices;
+    }) columns rows (0 ∷ 1 ∷ []) (0 ∷ 0 ∷ []) (0 ∷ 1 ∷ 1 ∷ 1 ∷ []) (0 ∷ 1 ∷ 0 ∷ 1 ∷ []) (0 ∷ replicate 63 1)
+
+-- by number: top, bottom, left, right
+abbrev causes : Layout → ℕ → ℕ → List ℕ
+causes l x y = causeNumbers (causesAt l x y)
+
+pub record CauseExamples : Type 0 where
+  -- the picture's rim is open
+  pub rim : causes (quarters false false [] []) 0 0 ≡ 0 ∷ 0 ∷ 0 ∷ 0 ∷ []
+  -- tile, slice and subpicture all close the side right of (31, 0); the switches take one after the other away
+  pub order : map (λ l. causes l 31 0) (quarters false false [] [] ∷ quarters true false [] [] ∷ quarters true true [] [] ∷ [])
+      ≡ (0 ∷ 0 ∷ 0 ∷ 3 ∷ []) ∷ (0 ∷ 0 ∷ 0 ∷ 4 ∷ []) ∷ (0 ∷ 0 ∷ 0 ∷ 5 ∷ []) ∷ []
+  -- from the other side, this CTB's own subpicture switch counts, and it is on
+  pub own-switch : causes (quarters true true [] []) 32 0 ≡ 0 ∷ 0 ∷ 0 ∷ 0 ∷ []
+  -- a virtual boundary is tested before the CTB's side, where 32 is both
+  pub virtual-side : map (λ x. causes (quarters false false (32 ∷ []) []) x 0) (31 ∷ 32 ∷ []) ≡ (0 ∷ 0 ∷ 0 ∷ 2 ∷ []) ∷ (0 ∷ 0 ∷ 2 ∷ 0 ∷ []) ∷ []
+  -- down column 8: the line is 5 below row 23 and 4 below row 24, then above, with the slice below; row 34 is the last near that slice
+  pub down : map (causes (quarters false false [] []) 8) (23 ∷ 24 ∷ 28 ∷ 31 ∷ 32 ∷ 34 ∷ 35 ∷ [])
+      ≡ (0 ∷ 0 ∷ 0 ∷ 0 ∷ []) ∷ (0 ∷ 1 ∷ 0 ∷ 0 ∷ []) ∷ (1 ∷ 4 ∷ 0 ∷ 0 ∷ []) ∷ (1 ∷ 4 ∷ 0 ∷ 0 ∷ []) ∷ (4 ∷ 0 ∷ 0 ∷ 0 ∷ []) ∷ (4 ∷ 0 ∷ 0 ∷ 0 ∷ []) ∷ (0 ∷ 0 ∷ 0 ∷ 0 ∷ []) ∷ []
+  -- a virtual row where the slice begins
+  pub virtual-row : map (causes (quarters false false [] (32 ∷ [])) 8) (28 ∷ 33 ∷ []) ≡ (1 ∷ 2 ∷ 0 ∷ 0 ∷ []) ∷ (2 ∷ 0 ∷ 0 ∷ 0 ∷ []) ∷ []
+  -- 15 is for a position outside, on either axis, and is judged last: 6 comes first; without room for the causes it is 5
+  pub accepted : causesFault (quarters false false (32 ∷ []) []) true 63 63 ≡ 0
+  pub outside : causesFault (quarters false false (32 ∷ []) []) true 64 63 ∷ causesFault (quarters false false (32 ∷ []) []) true 63 64 ∷ [] ≡ 15 ∷ 15 ∷ []
+  pub last : causesFault (quarters false false (4 ∷ []) []) true 64 63 ∷ causesFault (quarters false false (4 ∷ []) []) false 64 63 ∷ [] ≡ 6 ∷ 5 ∷ []
+
+pub cause-examples : CauseExamples
+unfolding allBelow everyFrom ctbSize planeOf sliceOf subpicOf tileColumnOf tileRowOf tileDisables sliceDisables subpicDisables stepCause columnSide rowSide find lineClip virtualClip sideClip clip columnCause rowCause causesAt pictureSizeValid ctbSizeValid bitDepthValid chromaFormatValid layoutLengthsValid apartAt virtualListValid virtualBoundariesValid followsAt tileListValid tilesValid cornerAt cornersInRow cornersValid slicesValid subpicturesValid positionValid unless layoutFault causesFault
+cause-examples = record {
+  rim = refl;
+  order = refl;
+  own-switch = refl;
+  virtual-side = refl;
+  down = refl;
+  virtual-row = refl;
+  accepted = refl;
+  outside = refl;
+  last = refl;
+}
