@@ -68,7 +68,8 @@ enum alf_fault {
     ALF_FILTER = 11,
     ALF_SAMPLE = 12,
     ALF_ADDRESS = 13,
-    ALF_REGION = 14
+    ALF_REGION = 14,
+    ALF_POSITION = 15
 };
 
 /* What a returned number means, for a message. */
@@ -90,8 +91,33 @@ static inline const char *alf_meaning(uint8_t number)
         "an input sample is 2^bit depth or more",
         "the list has an address that is not below the count of CTBs",
         "an entry of the region is not 0 or 1",
+        "the position lies outside the picture",
     };
     return number < sizeof meanings / sizeof meanings[0] ? meanings[number] : "not a number of this library";
+}
+
+/* Why the filters read nothing across a clip position, as alf_clip_causes writes it. */
+enum alf_clip_cause {
+    ALF_CLIP_OPEN = 0, /* no clip position on that side */
+    ALF_CLIP_LINE_BUFFER_BOUNDARY = 1,
+    ALF_CLIP_VIRTUAL_BOUNDARY = 2,
+    ALF_CLIP_TILE = 3,
+    ALF_CLIP_SLICE = 4,
+    ALF_CLIP_SUBPICTURE = 5
+};
+
+/* The name of a cause, for a message. */
+static inline const char *alf_clip_cause_name(uint8_t cause)
+{
+    static const char *const names[] = {
+        "open",
+        "line-buffer boundary",
+        "virtual boundary",
+        "tile",
+        "slice",
+        "subpicture",
+    };
+    return cause < sizeof names / sizeof names[0] ? names[cause] : "not a cause of this library";
 }
 
 /* The class map of a luma plane: (width/4) * (height/4) numbers, class + 32 * transpose of each 4 by 4 block, row by row.
@@ -187,6 +213,24 @@ uint8_t alf_isolated(
     const uint8_t *subpic_across, size_t subpic_across_length,
     const uint8_t *region, size_t region_length,
     uint8_t *isolated);
+
+/* What closes the sides of the luma sample in column x and row y: whether a clip position lies so near to it that the filters stop there, and why.
+ * causes has 4 entries, for top, bottom, left and right; each becomes an enum alf_clip_cause. Where the number returned is not 0 they stay as they
+ * were. Where several causes apply, the first counts of: at the top the line-buffer boundary, a virtual boundary, the CTB's side; at the bottom a
+ * virtual boundary, the line-buffer boundary, the CTB's side; left and right a virtual boundary, the CTB's side. A CTB's side is closed by a tile
+ * before a slice before a subpicture. The picture's rim is open. Judges the picture, the lengths and last the position: 1 to 9 and 15. */
+uint8_t alf_clip_causes(
+    uint32_t width, uint32_t height, uint8_t ctb_log2, uint8_t bit_depth, uint8_t chroma_format, uint32_t slice_count,
+    bool across_tiles, bool across_slices,
+    const uint16_t *virtual_columns, size_t virtual_columns_length,
+    const uint16_t *virtual_rows, size_t virtual_rows_length,
+    const uint8_t *tile_columns, size_t tile_columns_length,
+    const uint8_t *tile_rows, size_t tile_rows_length,
+    const uint8_t *slice_map, size_t slice_map_length,
+    const uint8_t *subpic_map, size_t subpic_map_length,
+    const uint8_t *subpic_across, size_t subpic_across_length,
+    uint32_t x, uint32_t y,
+    uint8_t *causes, size_t causes_length);
 
 #ifdef __cplusplus
 }

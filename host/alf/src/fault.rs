@@ -19,11 +19,12 @@ pub enum Fault {
     Sample = 12,
     Address = 13,
     Region = 14,
+    Position = 15,
 }
 
 impl Fault {
     /// All of them, lowest first.
-    pub const ALL: [Fault; 14] = [
+    pub const ALL: [Fault; 15] = [
         Fault::PictureSize,
         Fault::CtbSize,
         Fault::BitDepth,
@@ -38,9 +39,10 @@ impl Fault {
         Fault::Sample,
         Fault::Address,
         Fault::Region,
+        Fault::Position,
     ];
 
-    /// 1 to 14.
+    /// 1 to 15.
     pub fn number(self) -> u8 {
         self as u8
     }
@@ -66,6 +68,7 @@ impl Fault {
             Fault::Sample => "an input sample is 2^bit depth or more",
             Fault::Address => "the list has an address that is not below the count of CTBs",
             Fault::Region => "an entry of the region is not 0 or 1",
+            Fault::Position => "the position lies outside the picture",
         }
     }
 

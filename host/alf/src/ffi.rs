@@ -54,6 +54,7 @@ declare! {
         luma: *const u16, luma_length: usize, chroma: *const u16, chroma_length: usize, output: *mut u16, output_length: usize
     );
     alf_isolated(region: *const u8, region_length: usize, isolated: *mut u8);
+    alf_clip_causes(x: u32, y: u32, causes: *mut u8, causes_length: usize);
 }
 
 /// Calls a function with the picture and its tables, and what follows them.
@@ -168,4 +169,8 @@ pub fn cross_component(picture: &Picture, component: u8, parameters: &Parameters
 
 pub fn isolated(picture: &Picture, region: &[u8], isolated: &mut u8) -> u8 {
     call!(alf_isolated, picture, region.as_ptr(), region.len(), isolated)
+}
+
+pub fn clip_causes(picture: &Picture, x: u32, y: u32, causes: &mut [u8]) -> u8 {
+    call!(alf_clip_causes, picture, x, y, causes.as_mut_ptr(), causes.len())
 }

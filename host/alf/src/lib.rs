@@ -2,9 +2,11 @@
 //!
 //! Each operation judges what it is given before it works. It asks nothing of its caller: wrong sizes, lengths or numbers are answered with a
 //! [`Fault`], and then every output is left as it was.
+mod cause;
 mod fault;
 mod ffi;
 
+pub use cause::{ClipCause, ClipCauses};
 pub use fault::Fault;
 
 /// A picture's sizes, switches and boundary tables: what every operation is given.
@@ -91,4 +93,16 @@ pub fn isolated(picture: &Picture, region: &[u8]) -> Result<bool, Fault> {
     let mut answer = 0;
     Fault::from_answer(ffi::isolated(picture, region, &mut answer))?;
     Ok(answer == 1)
+}
+
+/// What closes the sides of the luma sample in column `x` and row `y`, as far as its neighbours reach.
+pub fn clip_causes(picture: &Picture, x: u32, y: u32) -> Result<ClipCauses, Fault> {
+    let mut numbers = [0; 4];
+    clip_cause_numbers(picture, x, y, &mut numbers)?;
+    Ok(ClipCauses::from_numbers(numbers))
+}
+
+/// The same by numbers, as the C interface has it: `causes` has four entries, top, bottom, left and right.
+pub fn clip_cause_numbers(picture: &Picture, x: u32, y: u32, causes: &mut [u8]) -> Result<(), Fault> {
+    Fault::from_answer(ffi::clip_causes(picture, x, y, causes))
 }

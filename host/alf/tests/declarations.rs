@@ -1,15 +1,16 @@
 //! The C interface stands in three texts: the Rattle source, which is proved; the C header; the wrapper's declarations. No compiler compares
-//! them, so this does, argument by argument. It also holds the header's numbers and messages to the wrapper's.
-use raspbegonia::Fault;
+//! them, so this does, argument by argument. It also holds the header's numbers, messages and causes to the wrapper's.
+use raspbegonia::{ClipCause, Fault};
 use std::fs;
 use std::path::Path;
 
-const FUNCTIONS: [(&str, &str); 5] = [
+const FUNCTIONS: [(&str, &str); 6] = [
     ("alf_classes", "classes"),
     ("alf_luma", "luma"),
     ("alf_chroma", "chroma"),
     ("alf_cross_component", "cross_component"),
     ("alf_isolated", "isolated"),
+    ("alf_clip_causes", "clip_causes"),
 ];
 
 /// An argument as C has it: its name and its type, as "u16", "*const u16" or "usize".
@@ -92,28 +93,55 @@ fn the_wrapper_declares_the_arguments_of_the_source() {
     }
 }
 
+/// The strings of a table in the header.
+fn strings<'a>(header: &'a str, table: &str) -> Vec<&'a str> {
+    between(header, &format!("{table}[] = {{"), "};")
+        .lines()
+        .filter_map(|line| line.trim().strip_prefix('"')?.strip_suffix("\","))
+        .collect()
+}
+
+/// A name as the header writes it: PictureSize becomes PICTURE_SIZE.
+fn capitals(name: String) -> String {
+    let mut found = String::new();
+    for c in name.chars() {
+        if c.is_uppercase() && !found.is_empty() {
+            found.push('_');
+        }
+        found.push(c.to_ascii_uppercase());
+    }
+    found
+}
+
+/// Whether the header has a line `NAME = number`, with or without a comma and a comment behind it.
+fn has_entry(header: &str, name: String, number: u8) -> bool {
+    let entry = format!("{name} = {number}");
+    header.lines().any(|line| {
+        let rest = line.trim().strip_prefix(&entry);
+        rest.is_some_and(|rest| rest.is_empty() || rest.starts_with(','))
+    })
+}
+
 #[test]
 fn the_header_has_the_numbers_and_messages_of_the_wrapper() {
     let header = text("../../include/alf.h");
-    let messages: Vec<&str> = between(&header, "meanings[] = {", "};")
-        .lines()
-        .filter_map(|line| line.trim().strip_prefix('"'))
-        .collect();
-    assert_eq!(messages.len(), 15);
+    let messages = strings(&header, "meanings");
+    assert_eq!(messages.len(), 1 + Fault::ALL.len());
     for (fault, number) in Fault::ALL.iter().zip(1..) {
         assert_eq!(fault.number(), number);
-        assert_eq!(messages[usize::from(number)], format!("{}\",", fault.meaning()));
-        let name: String = format!("{fault:?}")
-            .chars()
-            .flat_map(|c| {
-                if c.is_uppercase() {
-                    vec!['_', c]
-                } else {
-                    vec![c.to_ascii_uppercase()]
-                }
-            })
-            .collect();
-        let entry = format!("ALF{name} = {number}");
-        assert!(header.lines().any(|line| line.trim().trim_end_matches(',') == entry), "no {entry}");
+        assert_eq!(messages[usize::from(number)], fault.meaning());
+        let name = format!("ALF_{}", capitals(format!("{fault:?}")));
+        assert!(has_entry(&header, name, number), "{fault:?}");
+    }
+}
+
+#[test]
+fn the_header_has_the_causes_of_the_wrapper() {
+    let header = text("../../include/alf.h");
+    assert_eq!(strings(&header, "names"), ClipCause::ALL.map(ClipCause::name));
+    for (cause, number) in ClipCause::ALL.iter().zip(0..) {
+        assert_eq!(cause.number(), number);
+        let name = format!("ALF_CLIP_{}", capitals(format!("{cause:?}")));
+        assert!(has_entry(&header, name, number), "{cause:?}");
     }
 }
