@@ -1,14 +1,31 @@
-//! Clip positions round a sample and the padding of its neighbours (8.8.5.5 and 8.8.5.6).
+//! Clip positions round a sample, their causes, and the padding of its neighbours (8.8.5.5 and 8.8.5.6).
 
 use crate::layout::{Ctb, Layout, Plane};
+
+/// What closes a side (02, card 1), by its number; 0 is a side without a clip position.
+#[derive(Clone, Copy, Debug, PartialEq, Eq)]
+pub(crate) enum ClipCause {
+    LineBufferBoundary = 1,
+    VirtualBoundary = 2,
+    Tile = 3,
+    Slice = 4,
+    Subpicture = 5,
+}
+
+/// A clip position in the picture, and what put it there.
+#[derive(Clone, Copy, Debug, PartialEq, Eq)]
+pub(crate) struct Clip {
+    pub position: i64,
+    pub cause: ClipCause,
+}
 
 /// The clip positions of 8.8.5.5 (01: edges). An absent one is the clause's −128.
 #[derive(Clone, Copy, Debug, PartialEq, Eq)]
 pub(crate) struct Edges {
-    pub clip_top: Option<i64>,
-    pub clip_bottom: Option<i64>,
-    pub clip_left: Option<i64>,
-    pub clip_right: Option<i64>,
+    pub clip_top: Option<Clip>,
+    pub clip_bottom: Option<Clip>,
+    pub clip_left: Option<Clip>,
+    pub clip_right: Option<Clip>,
     pub clip_top_left_flag: bool,
     pub clip_bot_right_flag: bool,
 }
@@ -33,15 +50,18 @@ pub(crate) fn line_rule(layout: &Layout, ctb: Ctb) -> bool {
 /// 01: closed. Filtering across a CTB's side is disabled where tile, slice or
 /// subpicture changes across it and the flag for that is 0; a subpicture's flag is
 /// that of the CTB itself. The picture boundary is not closed: no CTB lies beyond.
-pub(crate) fn closed(layout: &Layout, ctb: Ctb, columns: i64, rows: i64) -> bool {
-    let Some(across) = layout.beside(ctb, columns, rows) else {
-        return false;
-    };
+/// Where several of the three do it, 02 has the tile count before the slice and the
+/// slice before the subpicture.
+pub(crate) fn closed_by(layout: &Layout, ctb: Ctb, columns: i64, rows: i64) -> Option<ClipCause> {
+    let across = layout.beside(ctb, columns, rows)?;
     let own_flag = layout.subpic_across[usize::from(layout.subpic(ctb))];
-    let tile = layout.tile(ctb) != layout.tile(across) && !layout.across_tiles;
-    let slice = layout.slice(ctb) != layout.slice(across) && !layout.across_slices;
-    let subpic = layout.subpic(ctb) != layout.subpic(across) && own_flag == 0;
-    tile || slice || subpic
+    if layout.tile(ctb) != layout.tile(across) && !layout.across_tiles {
+        return Some(ClipCause::Tile);
+    }
+    if layout.slice(ctb) != layout.slice(across) && !layout.across_slices {
+        return Some(ClipCause::Slice);
+    }
+    (layout.subpic(ctb) != layout.subpic(across) && own_flag == 0).then_some(ClipCause::Subpicture)
 }
 
 /// 8.8.5.5 for the luma position ( x, y ) inside the CTB.
@@ -56,70 +76,65 @@ pub(crate) fn edges(layout: &Layout, ctb: Ctb, x: i64, y: i64) -> Edges {
     }
 }
 
-/// clipTopPos, (1511): the line-buffer boundary, a virtual boundary, or the CTB's closed top.
-fn clip_top(layout: &Layout, ctb: Ctb, y: i64) -> Option<i64> {
+/// clipTopPos, (1511): the first of the line-buffer boundary, a virtual boundary, the CTB's closed top.
+fn clip_top(layout: &Layout, ctb: Ctb, y: i64) -> Option<Clip> {
     let (_, y_ctb) = layout.origin(ctb);
     let line = layout.ctb_size() - 4;
-    if y >= line {
-        return Some(y_ctb + line);
-    }
-    let virtual_row = boundary_before(layout.virtual_rows, y_ctb + y);
-    if virtual_row.is_some() {
-        return virtual_row;
-    }
-    (y < 3 && closed(layout, ctb, 0, -1)).then_some(y_ctb)
+    clip_at(y >= line, y_ctb + line, ClipCause::LineBufferBoundary)
+        .or_else(|| boundary_before(layout.virtual_rows, y_ctb + y))
+        .or_else(|| clip_side(y < 3, y_ctb, closed_by(layout, ctb, 0, -1)))
 }
 
-/// clipBottomPos, (1512): a virtual boundary, the line-buffer boundary, or the CTB's closed bottom.
-fn clip_bottom(layout: &Layout, ctb: Ctb, y: i64) -> Option<i64> {
+/// clipBottomPos, (1512): the first of a virtual boundary, the line-buffer boundary, the CTB's closed bottom.
+fn clip_bottom(layout: &Layout, ctb: Ctb, y: i64) -> Option<Clip> {
     let (_, y_ctb) = layout.origin(ctb);
     let size = layout.ctb_size();
     let line = size - 4;
-    let virtual_row = boundary_after(layout.virtual_rows, y_ctb + y);
-    if virtual_row.is_some() {
-        return virtual_row;
-    }
-    if (1..=4).contains(&(line - y)) {
-        return Some(y_ctb + line);
-    }
-    (size - y < 5 && closed(layout, ctb, 0, 1)).then_some(y_ctb + size)
+    boundary_after(layout.virtual_rows, y_ctb + y)
+        .or_else(|| clip_at((1..=4).contains(&(line - y)), y_ctb + line, ClipCause::LineBufferBoundary))
+        .or_else(|| clip_side(size - y < 5, y_ctb + size, closed_by(layout, ctb, 0, 1)))
 }
 
-/// clipLeftPos, (1513).
-fn clip_left(layout: &Layout, ctb: Ctb, x: i64) -> Option<i64> {
+/// clipLeftPos, (1513): a virtual boundary, else the CTB's closed left side.
+fn clip_left(layout: &Layout, ctb: Ctb, x: i64) -> Option<Clip> {
     let (x_ctb, _) = layout.origin(ctb);
-    let virtual_column = boundary_before(layout.virtual_columns, x_ctb + x);
-    if virtual_column.is_some() {
-        return virtual_column;
-    }
-    (x < 3 && closed(layout, ctb, -1, 0)).then_some(x_ctb)
+    boundary_before(layout.virtual_columns, x_ctb + x).or_else(|| clip_side(x < 3, x_ctb, closed_by(layout, ctb, -1, 0)))
 }
 
-/// clipRightPos, (1514).
-fn clip_right(layout: &Layout, ctb: Ctb, x: i64) -> Option<i64> {
+/// clipRightPos, (1514): a virtual boundary, else the CTB's closed right side.
+fn clip_right(layout: &Layout, ctb: Ctb, x: i64) -> Option<Clip> {
     let (x_ctb, _) = layout.origin(ctb);
     let size = layout.ctb_size();
-    let virtual_column = boundary_after(layout.virtual_columns, x_ctb + x);
-    if virtual_column.is_some() {
-        return virtual_column;
-    }
-    (size - x < 5 && closed(layout, ctb, 1, 0)).then_some(x_ctb + size)
+    boundary_after(layout.virtual_columns, x_ctb + x).or_else(|| clip_side(size - x < 5, x_ctb + size, closed_by(layout, ctb, 1, 0)))
+}
+
+/// A clip position where a test holds.
+fn clip_at(holds: bool, position: i64, cause: ClipCause) -> Option<Clip> {
+    holds.then_some(Clip { position, cause })
+}
+
+/// A CTB's side as a clip position, where the sample is near to it and something closes it.
+fn clip_side(near: bool, position: i64, closed_by: Option<ClipCause>) -> Option<Clip> {
+    closed_by.and_then(|cause| clip_at(near, position, cause))
 }
 
 /// A virtual boundary at a picture position or 1 or 2 before it.
-fn boundary_before(boundaries: &[u16], position: i64) -> Option<i64> {
-    boundaries
-        .iter()
-        .map(|&boundary| i64::from(boundary))
-        .find(|boundary| (0..=2).contains(&(position - boundary)))
+fn boundary_before(boundaries: &[u16], position: i64) -> Option<Clip> {
+    boundary(boundaries, |boundary| (0..=2).contains(&(position - boundary)))
 }
 
 /// A virtual boundary 1 to 4 after a picture position.
-fn boundary_after(boundaries: &[u16], position: i64) -> Option<i64> {
-    boundaries
+fn boundary_after(boundaries: &[u16], position: i64) -> Option<Clip> {
+    boundary(boundaries, |boundary| (1..=4).contains(&(boundary - position)))
+}
+
+/// The first virtual boundary that is near in the sense given.
+fn boundary(boundaries: &[u16], near: impl Fn(i64) -> bool) -> Option<Clip> {
+    let position = boundaries
         .iter()
         .map(|&boundary| i64::from(boundary))
-        .find(|boundary| (1..=4).contains(&(boundary - position)))
+        .find(|&boundary| near(boundary))?;
+    clip_at(true, position, ClipCause::VirtualBoundary)
 }
 
 /// clipTopLeftFlag and clipBotRightFlag: the diagonal CTB is there and of another
@@ -144,13 +159,13 @@ pub(crate) fn padded(layout: &Layout, plane: &Plane, ctb: Ctb, edges: &Edges, (x
 }
 
 /// (1521) to (1528) in one direction: clip positions are halved for chroma, then applied.
-fn clip_to((before, after): (Option<i64>, Option<i64>), scale: i64, size: i64, position: i64) -> i64 {
+fn clip_to((before, after): (Option<Clip>, Option<Clip>), scale: i64, size: i64, position: i64) -> i64 {
     let mut position = position;
-    if let Some(clip_pos) = before {
-        position = clip3(clip_pos / scale, size - 1, position);
+    if let Some(clip) = before {
+        position = clip3(clip.position / scale, size - 1, position);
     }
-    if let Some(clip_pos) = after {
-        position = clip3(0, clip_pos / scale - 1, position);
+    if let Some(clip) = after {
+        position = clip3(0, clip.position / scale - 1, position);
     }
     position
 }

@@ -1,4 +1,4 @@
-//! The causes for which a picture is rejected (01, the table of numbers).
+//! The causes for which a picture is rejected (01, the table of numbers, and 02).
 
 use crate::layout::{Ctb, FixedTables, Layout, Parameters};
 
@@ -12,6 +12,10 @@ pub(crate) struct Given<'a> {
     pub chroma: Option<&'a [u16]>,
     pub region: Option<&'a [u8]>,
     pub output: Option<Output>,
+    /// Column and row of a luma sample.
+    pub position: Option<(u32, u32)>,
+    /// The length of the list for the causes of its clip positions.
+    pub causes: Option<usize>,
 }
 
 /// An output plane: how many luma samples, each way, one entry stands for, and its length.
@@ -25,7 +29,7 @@ pub(crate) struct Output {
 type Cause = fn(&Layout, &Given) -> bool;
 
 /// The causes in the order of their numbers, from 1.
-const CAUSES: [Cause; 14] = [
+const CAUSES: [Cause; 15] = [
     size,
     ctb_exponent,
     bit_depth,
@@ -40,6 +44,7 @@ const CAUSES: [Cause; 14] = [
     samples,
     addresses,
     region_bytes,
+    outside,
 ];
 
 /// The lowest number that applies, or 0.
@@ -110,6 +115,7 @@ fn plane_lengths(layout: &Layout, given: &Given) -> bool {
         || given.chroma.is_some_and(|plane| wrong(plane.len(), layout.cells(2)))
         || given.region.is_some_and(|region| wrong(region.len(), layout.cells(8)))
         || given.output.is_some_and(|output| wrong(output.length, layout.cells(output.cell)))
+        || given.causes.is_some_and(|length| wrong(length, 4))
 }
 
 /// 6: virtual boundaries in either direction.
@@ -264,4 +270,9 @@ fn addresses(layout: &Layout, given: &Given) -> bool {
 /// 14: region bytes are 0 or 1.
 fn region_bytes(_: &Layout, given: &Given) -> bool {
     given.region.is_some_and(|region| region.iter().any(|&byte| byte > 1))
+}
+
+/// 15: the position lies outside the picture.
+fn outside(layout: &Layout, given: &Given) -> bool {
+    given.position.is_some_and(|(x, y)| x >= layout.width || y >= layout.height)
 }

@@ -3,12 +3,14 @@
 //! It serves to test a faster implementation. Each sample is worked out alone:
 //! its clip positions, the padded position of each neighbour and the sum are found
 //! afresh, in the order in which the clause tells it. The scope paper, cited as "01",
-//! decides wherever it speaks; equation and table numbers are those of H.266.
+//! decides wherever it speaks, and the change requests, cited as "02", add to it;
+//! equation and table numbers are those of H.266.
 //!
 //! Every operation first judges what it is given. It returns the number of the
-//! lowest cause of 01's table that applies and then leaves its output alone,
-//! or it returns 0 and fills its output.
+//! lowest cause of 01's table, with what 02 adds to it, that applies and then leaves
+//! its output alone, or it returns 0 and fills its output.
 
+mod causes;
 mod classes;
 mod edges;
 mod filters;
@@ -20,6 +22,7 @@ mod taps;
 #[cfg(test)]
 mod tests;
 
+pub use causes::clip_causes;
 pub use classes::classes;
 pub use filters::{chroma, cross_component, luma};
 pub use layout::{FixedTables, Layout, Parameters};

@@ -1,6 +1,6 @@
 //! The test whether a region is isolated (01, "Edges and padding", on steps).
 
-use crate::edges::closed;
+use crate::edges::closed_by;
 use crate::judge::{judge, Given};
 use crate::layout::Layout;
 
@@ -68,7 +68,7 @@ fn side_step_closed(layout: &Layout, (x, y): (i64, i64), dx: i64, dy: i64) -> bo
     let on_row = dy != 0 && holds(layout.virtual_rows, y.max(y + dy));
     let from = layout.covering(x, y);
     let to = layout.covering(x + dx, y + dy);
-    on_column || on_row || (from != to && closed(layout, from, dx, dy))
+    on_column || on_row || (from != to && closed_by(layout, from, dx, dy).is_some())
 }
 
 /// A virtual boundary lies between its own position and the one before.

@@ -11,53 +11,56 @@ fn good() -> Given {
     given
 }
 
-/// The numbers that the five operations return after a change.
-fn after(change: impl Fn(&mut Given)) -> [u8; 5] {
+/// The numbers that the six operations return after a change.
+fn after(change: impl Fn(&mut Given)) -> [u8; 6] {
     let mut given = good();
     change(&mut given);
     given.numbers()
 }
 
 /// The number where only the three filters judge.
-fn filters(number: u8) -> [u8; 5] {
-    [0, number, number, number, 0]
+fn filters(number: u8) -> [u8; 6] {
+    [0, number, number, number, 0, 0]
 }
 
 #[test]
 fn good_is_accepted() {
-    assert_eq!(after(|_| ()), [0; 5]);
+    assert_eq!(after(|_| ()), [0; 6]);
 }
 
 #[test]
 fn picture() {
-    assert_eq!(after(|given| given.height = 4), [1; 5]);
-    assert_eq!(after(|given| given.ctb_log2 = 8), [2; 5]);
-    assert_eq!(after(|given| given.ctb_log2 = 255), [2; 5]);
-    assert_eq!(after(|given| given.bit_depth = 13), [3; 5]);
-    assert_eq!(after(|given| given.bit_depth = 7), [3; 5]);
-    assert_eq!(after(|given| given.chroma_format = 2), [4; 5]);
-    assert_eq!(after(|given| given.chroma_format = 0), [0, 0, 4, 4, 0]);
+    assert_eq!(after(|given| given.height = 4), [1; 6]);
+    assert_eq!(after(|given| given.ctb_log2 = 8), [2; 6]);
+    assert_eq!(after(|given| given.ctb_log2 = 255), [2; 6]);
+    assert_eq!(after(|given| given.bit_depth = 13), [3; 6]);
+    assert_eq!(after(|given| given.bit_depth = 7), [3; 6]);
+    assert_eq!(after(|given| given.chroma_format = 2), [4; 6]);
+    assert_eq!(after(|given| given.chroma_format = 0), [0, 0, 4, 4, 0, 0]);
     assert_eq!(good().filter_chroma(2).0, 4);
     assert_eq!(good().filter_cross(255).0, 4);
 }
 
 #[test]
 fn lengths() {
-    assert_eq!(after(|given| given.slice_count = 0), [5; 5]);
-    assert_eq!(after(|given| given.slice_count = 257), [5; 5]);
+    assert_eq!(after(|given| given.slice_count = 0), [5; 6]);
+    assert_eq!(after(|given| given.slice_count = 257), [5; 6]);
     assert_eq!(after(|given| given.slice_count = 3), filters(5));
-    assert_eq!(after(|given| given.tile_columns.push(0)), [5; 5]);
-    assert_eq!(after(|given| given.tile_rows.clear()), [5; 5]);
-    assert_eq!(after(|given| given.slice_map.push(0)), [5; 5]);
-    assert_eq!(after(|given| given.subpic_map.push(0)), [5; 5]);
-    assert_eq!(after(|given| given.subpic_across.push(0)), [5; 5]);
+    assert_eq!(after(|given| given.tile_columns.push(0)), [5; 6]);
+    assert_eq!(after(|given| given.tile_rows.clear()), [5; 6]);
+    assert_eq!(after(|given| given.slice_map.push(0)), [5; 6]);
+    assert_eq!(after(|given| given.subpic_map.push(0)), [5; 6]);
+    assert_eq!(after(|given| given.subpic_across.push(0)), [5; 6]);
     assert_eq!(after(|given| given.bank.push(0)), filters(5));
     assert_eq!(after(|given| given.ctb_params.push(0)), filters(5));
-    assert_eq!(after(|given| given.fixed_map.push(0)), [0, 5, 0, 0, 0]);
-    assert_eq!(after(|given| given.fixed_filters.clear()), [0, 5, 0, 0, 0]);
-    assert_eq!(after(|given| given.luma.clear()), [5, 5, 0, 5, 0]);
-    assert_eq!(after(|given| given.chroma.push(0)), [0, 0, 5, 5, 0]);
-    assert_eq!(after(|given| given.region.push(0)), [0, 0, 0, 0, 5]);
+    assert_eq!(after(|given| given.fixed_map.push(0)), [0, 5, 0, 0, 0, 0]);
+    assert_eq!(after(|given| given.fixed_filters.clear()), [0, 5, 0, 0, 0, 0]);
+    assert_eq!(after(|given| given.luma.clear()), [5, 5, 0, 5, 0, 0]);
+    assert_eq!(after(|given| given.chroma.push(0)), [0, 0, 5, 5, 0, 0]);
+    assert_eq!(after(|given| given.region.push(0)), [0, 0, 0, 0, 5, 0]);
+    for length in [0, 3, 5, 64] {
+        assert_eq!(after(|given| given.causes = length), [0, 0, 0, 0, 0, 5]);
+    }
 }
 
 #[test]
@@ -82,52 +85,52 @@ fn virtual_boundaries() {
     let columns = |list: &[u16]| after(|given| given.virtual_columns = list.to_vec());
     let rows = |list: &[u16]| after(|given| given.virtual_rows = list.to_vec());
     for boundaries in [&[8][..], &[88], &[8, 40, 72], &[16, 48], &[]] {
-        assert_eq!(columns(boundaries), [0; 5]);
-        assert_eq!(rows(boundaries), [0; 5]);
+        assert_eq!(columns(boundaries), [0; 6]);
+        assert_eq!(rows(boundaries), [0; 6]);
     }
     for boundaries in [&[0][..], &[96], &[12], &[8, 32], &[40, 8], &[40, 40], &[65528]] {
-        assert_eq!(columns(boundaries), [6; 5]);
-        assert_eq!(rows(boundaries), [6; 5]);
+        assert_eq!(columns(boundaries), [6; 6]);
+        assert_eq!(rows(boundaries), [6; 6]);
     }
     let mut wide = Given::plain(256, 8, 5, 8);
     wide.virtual_columns = vec![8, 40, 72];
-    assert_eq!(wide.numbers(), [0; 5]);
+    assert_eq!(wide.numbers(), [0; 6]);
     wide.virtual_columns.push(104);
-    assert_eq!(wide.numbers(), [6; 5]);
+    assert_eq!(wide.numbers(), [6; 6]);
 }
 
 #[test]
 fn tiles() {
     let columns = |list: [u8; 3]| after(|given| given.tile_columns = list.to_vec());
     let rows = |list: [u8; 3]| after(|given| given.tile_rows = list.to_vec());
-    assert_eq!(columns([0, 0, 1]), [0; 5]);
-    assert_eq!(rows([0, 1, 2]), [0; 5]);
-    assert_eq!(columns([1, 1, 1]), [7; 5]);
-    assert_eq!(columns([0, 2, 2]), [7; 5]);
-    assert_eq!(rows([0, 1, 0]), [7; 5]);
+    assert_eq!(columns([0, 0, 1]), [0; 6]);
+    assert_eq!(rows([0, 1, 2]), [0; 6]);
+    assert_eq!(columns([1, 1, 1]), [7; 6]);
+    assert_eq!(columns([0, 2, 2]), [7; 6]);
+    assert_eq!(rows([0, 1, 0]), [7; 6]);
 }
 
 #[test]
 fn slice_maps() {
     let map = |map: [u8; 9]| after(|given| given.slice_map = map.to_vec());
-    assert_eq!(map([0, 0, 0, 0, 1, 1, 1, 1, 1]), [0; 5]);
-    assert_eq!(map([1, 1, 1, 1, 1, 1, 1, 1, 0]), [0; 5]);
-    assert_eq!(map([1, 0, 1, 1, 1, 1, 1, 1, 1]), [8; 5]);
-    assert_eq!(map([0, 0, 0, 0, 0, 0, 0, 1, 0]), [8; 5]);
-    assert_eq!(map([0, 0, 0, 0, 0, 0, 2, 2, 2]), [8; 5]);
+    assert_eq!(map([0, 0, 0, 0, 1, 1, 1, 1, 1]), [0; 6]);
+    assert_eq!(map([1, 1, 1, 1, 1, 1, 1, 1, 0]), [0; 6]);
+    assert_eq!(map([1, 0, 1, 1, 1, 1, 1, 1, 1]), [8; 6]);
+    assert_eq!(map([0, 0, 0, 0, 0, 0, 0, 1, 0]), [8; 6]);
+    assert_eq!(map([0, 0, 0, 0, 0, 0, 2, 2, 2]), [8; 6]);
     // The upper right CTB of the grid alone: its one corner breaks the rule.
-    assert_eq!(map([0, 0, 1, 0, 0, 0, 0, 0, 0]), [8; 5]);
+    assert_eq!(map([0, 0, 1, 0, 0, 0, 0, 0, 0]), [8; 6]);
 }
 
 #[test]
 fn subpictures() {
     let map = |map: [u8; 9]| after(|given| given.subpic_map = map.to_vec());
-    assert_eq!(map([0, 63, 63, 0, 63, 63, 0, 63, 63]), [0; 5]);
-    assert_eq!(map([0, 1, 1, 2, 3, 3, 2, 3, 3]), [0; 5]);
-    assert_eq!(map([64, 64, 64, 64, 64, 64, 64, 64, 64]), [9; 5]);
-    assert_eq!(map([0, 1, 1, 1, 1, 1, 1, 1, 1]), [9; 5]);
-    assert_eq!(map([1, 1, 1, 1, 1, 1, 1, 1, 0]), [9; 5]);
-    assert_eq!(after(|given| given.subpic_across[63] = 2), [9; 5]);
+    assert_eq!(map([0, 63, 63, 0, 63, 63, 0, 63, 63]), [0; 6]);
+    assert_eq!(map([0, 1, 1, 2, 3, 3, 2, 3, 3]), [0; 6]);
+    assert_eq!(map([64, 64, 64, 64, 64, 64, 64, 64, 64]), [9; 6]);
+    assert_eq!(map([0, 1, 1, 1, 1, 1, 1, 1, 1]), [9; 6]);
+    assert_eq!(map([1, 1, 1, 1, 1, 1, 1, 1, 0]), [9; 6]);
+    assert_eq!(after(|given| given.subpic_across[63] = 2), [9; 6]);
 }
 
 #[test]
@@ -176,20 +179,24 @@ fn bank_and_fixed_filters() {
         assert_eq!(bank(clip, 1025), filters(11));
         assert_eq!(bank(clip, -1), filters(11));
     }
-    assert_eq!(after(|given| given.fixed_filters[767] = 128), [0, 11, 0, 0, 0]);
-    assert_eq!(after(|given| given.fixed_map[399] = 63), [0; 5]);
-    assert_eq!(after(|given| given.fixed_map[399] = 64), [0, 11, 0, 0, 0]);
+    assert_eq!(after(|given| given.fixed_filters[767] = 128), [0, 11, 0, 0, 0, 0]);
+    assert_eq!(after(|given| given.fixed_map[399] = 63), [0; 6]);
+    assert_eq!(after(|given| given.fixed_map[399] = 64), [0, 11, 0, 0, 0, 0]);
 }
 
 #[test]
-fn samples_addresses_and_region() {
-    assert_eq!(after(|given| given.luma[95] = 1023), [0; 5]);
-    assert_eq!(after(|given| given.luma[95] = 1024), [12, 12, 0, 12, 0]);
-    assert_eq!(after(|given| given.chroma[0] = 1024), [0, 0, 12, 12, 0]);
-    assert_eq!(after(|given| given.ctb_list = vec![8, 8, 0]), [0; 5]);
-    assert_eq!(after(|given| given.ctb_list = vec![]), [0; 5]);
+fn samples_addresses_region_and_position() {
+    assert_eq!(after(|given| given.luma[95] = 1023), [0; 6]);
+    assert_eq!(after(|given| given.luma[95] = 1024), [12, 12, 0, 12, 0, 0]);
+    assert_eq!(after(|given| given.chroma[0] = 1024), [0, 0, 12, 12, 0, 0]);
+    assert_eq!(after(|given| given.ctb_list = vec![8, 8, 0]), [0; 6]);
+    assert_eq!(after(|given| given.ctb_list = vec![]), [0; 6]);
     assert_eq!(after(|given| given.ctb_list = vec![9]), filters(13));
-    assert_eq!(after(|given| given.region[0] = 2), [0, 0, 0, 0, 14]);
+    assert_eq!(after(|given| given.region[0] = 2), [0, 0, 0, 0, 14, 0]);
+    assert_eq!(after(|given| given.position = (95, 95)), [0; 6]);
+    for position in [(96, 0), (0, 96), (u32::MAX, 5), (5, u32::MAX)] {
+        assert_eq!(after(|given| given.position = position), [0, 0, 0, 0, 0, 15]);
+    }
 }
 
 /// All causes at once; then they are mended one after another.
@@ -229,4 +236,41 @@ fn lowest_number_first() {
         mend(&mut given);
     }
     assert_eq!(given.filter_luma().0, 0);
+}
+
+/// A number, and how to mend its cause.
+type Mend = (u8, fn(&mut Given));
+
+/// The same for the causes of clip positions: their length stands before the boundary
+/// tables, the position comes last.
+#[test]
+fn position_is_judged_last() {
+    let mut given = good();
+    given.position = (96, 96);
+    given.subpic_across[0] = 2;
+    given.slice_map[0] = 2;
+    given.tile_rows[0] = 1;
+    given.virtual_rows = vec![1];
+    given.causes = 5;
+    given.chroma_format = 2;
+    given.bit_depth = 0;
+    given.ctb_log2 = 0;
+    given.width = 0;
+    let mends: [Mend; 10] = [
+        (1, |given| given.width = 96),
+        (2, |given| given.ctb_log2 = 5),
+        (3, |given| given.bit_depth = 10),
+        (4, |given| given.chroma_format = 1),
+        (5, |given| given.causes = 4),
+        (6, |given| given.virtual_rows.clear()),
+        (7, |given| given.tile_rows[0] = 0),
+        (8, |given| given.slice_map[0] = 0),
+        (9, |given| given.subpic_across[0] = 1),
+        (15, |given| given.position = (95, 95)),
+    ];
+    for (number, mend) in mends {
+        assert_eq!(given.clip_causes(), (number, vec![77; given.causes]));
+        mend(&mut given);
+    }
+    assert_eq!(given.clip_causes().0, 0);
 }

@@ -46,17 +46,24 @@ fn garbage(random: &mut Random) -> Given {
         luma: words(random, 300, 65536),
         chroma: words(random, 100, 65536),
         region: bytes(random, 6, bound),
+        position: (random.below(20) as u32, random.next() as u32 >> random.below(32)),
+        causes: [4, 4, random.below(9) as usize][random.below(3) as usize],
     }
 }
+
+/// The highest number that an operation may return.
+const HIGHEST: u8 = 15;
 
 /// Runs all operations and checks numbers and untouched outputs.
 fn run(given: &Given, component: u8) {
     let (number, classes) = given.classes();
-    assert!(number <= 14 && (number == 0 || classes.iter().all(|&each| each == 77)));
+    assert!(number <= HIGHEST && (number == 0 || classes.iter().all(|&each| each == 77)));
     let (number, answer) = given.isolated();
-    assert!(number <= 14 && (answer <= 1) == (number == 0));
+    assert!(number <= HIGHEST && (answer <= 1) == (number == 0));
+    let (number, causes) = given.clip_causes();
+    assert!(number <= HIGHEST && causes.iter().all(|&each| if number == 0 { each <= 5 } else { each == 77 }));
     for (number, output) in [given.filter_luma(), given.filter_chroma(component), given.filter_cross(component)] {
-        assert!(number <= 14 && (number == 0 || output.iter().all(|&each| each == 777)));
+        assert!(number <= HIGHEST && (number == 0 || output.iter().all(|&each| each == 777)));
     }
 }
 
@@ -86,7 +93,7 @@ fn spoilt(random: &mut Random) -> Given {
     let mut given = Given::plain(8 + 8 * random.below(9) as u32, 40, 5, 8);
     let bad = garbage(random);
     for _ in 0..random.below(4) {
-        match random.below(14) {
+        match random.below(16) {
             0 => given.width = bad.width,
             1 => given.ctb_log2 = bad.ctb_log2,
             2 => given.bit_depth = bad.bit_depth,
@@ -100,6 +107,8 @@ fn spoilt(random: &mut Random) -> Given {
             10 => poke(random, &mut given.ctb_params),
             11 => given.bank = bad.bank.clone(),
             12 => given.luma[7] = random.next() as u16,
+            13 => given.position = bad.position,
+            14 => given.causes = bad.causes,
             _ => given.ctb_list = bad.ctb_list.clone(),
         }
     }
@@ -140,6 +149,7 @@ fn extreme_numbers() {
     assert_eq!(crate::luma(&layout, &parameters, &fixed, &[], &mut []), 1);
     assert_eq!(crate::chroma(&layout, 9, &parameters, &[], &mut []), 1);
     assert_eq!(crate::isolated(&layout, &[], &mut 0), 1);
+    assert_eq!(crate::clip_causes(&layout, u32::MAX, u32::MAX, &mut []), 1);
 }
 
 /// The largest values of everything, and the smallest, filter without overflow.
@@ -158,7 +168,7 @@ fn extreme_filters() {
             *sample = if (index / 40 + index) % 2 == 0 { low } else { high };
         }
         given.chroma = given.luma[..400].to_vec();
-        assert_eq!(given.numbers(), [0; 5]);
+        assert_eq!(given.numbers(), [0; 6]);
         assert!(given.filter_luma().1.iter().all(|&sample| sample < 4096));
     }
 }

@@ -162,7 +162,7 @@ fn outside_never_reaches_isolated_regions() {
             continue;
         }
         let (number, answer) = given.isolated();
-        assert_eq!((number, given.numbers()), (0, [0; 5]), "round {round}");
+        assert_eq!((number, given.numbers()), (0, [0; 6]), "round {round}");
         let other = changed_outside(&given, &mut random);
         let alike = results_agree(&given, &other);
         assert!(alike || answer == 0, "round {round}");

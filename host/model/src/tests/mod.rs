@@ -1,6 +1,7 @@
 //! Tests of the model against 01's worked examples, its table of causes, random input
 //! and the independence of isolated regions.
 
+mod causes;
 mod faults;
 mod garbage;
 mod isolation;
@@ -61,6 +62,9 @@ pub(crate) struct Given {
     pub luma: Vec<u16>,
     pub chroma: Vec<u16>,
     pub region: Vec<u8>,
+    pub position: (u32, u32),
+    /// How long the list for the causes is.
+    pub causes: usize,
 }
 
 impl Given {
@@ -95,6 +99,8 @@ impl Given {
             luma: vec![0; samples],
             chroma: vec![0; samples / 4],
             region: vec![0; samples / 64],
+            position: (0, 0),
+            causes: 4,
         }
     }
 
@@ -168,14 +174,23 @@ impl Given {
         (number, answer)
     }
 
+    /// Asks what closes the sides of a sample; the list starts as 77 throughout.
+    pub(crate) fn clip_causes(&self) -> (u8, Vec<u8>) {
+        let mut causes = vec![77; self.causes];
+        let (x, y) = self.position;
+        let number = crate::clip_causes(&self.layout(), x, y, &mut causes);
+        (number, causes)
+    }
+
     /// The numbers of all operations, classes first; chroma work is for Cb.
-    pub(crate) fn numbers(&self) -> [u8; 5] {
+    pub(crate) fn numbers(&self) -> [u8; 6] {
         [
             self.classes().0,
             self.filter_luma().0,
             self.filter_chroma(0).0,
             self.filter_cross(0).0,
             self.isolated().0,
+            self.clip_causes().0,
         ]
     }
 }

@@ -2,7 +2,7 @@
 
 use super::Given;
 use crate::classes::{activity, class_of_sums, window, Sums, Window};
-use crate::edges::{edges, line_rule, padded};
+use crate::edges::{edges, line_rule, padded, Clip, ClipCause};
 use crate::filters::luma_sample;
 use crate::layout::{Ctb, Plane};
 use crate::taps::{chroma_reach, cross_reach, luma_reach, luma_taps, rounded, Filter, Reach, TAP_ORDER};
@@ -38,10 +38,14 @@ fn p9_clip_positions_at_line_buffer_boundary() {
     let given = Given::plain(32, 32, 5, 8);
     let layout = given.layout();
     let at = |y| edges(&layout, layout.ctb(0), 8, y);
+    let line = Clip {
+        position: 28,
+        cause: ClipCause::LineBufferBoundary,
+    };
     assert_eq!(at(23).clip_bottom, None);
-    assert_eq!(at(24).clip_bottom, Some(28));
+    assert_eq!(at(24).clip_bottom, Some(line));
     assert_eq!(at(27).clip_top, None);
-    assert_eq!(at(28).clip_top, Some(28));
+    assert_eq!(at(28).clip_top, Some(line));
     assert_eq!(at(28).clip_bottom, None);
 }
 
@@ -59,7 +63,7 @@ fn corner_slice() -> Given {
 fn p10_upper_left_corner() {
     let given = corner_slice();
     let layout = given.layout();
-    assert_eq!(given.numbers(), [0; 5]);
+    assert_eq!(given.numbers(), [0; 6]);
     let ctb = layout.covering(32, 32);
     let plane = Plane::luma(&layout, &given.luma);
     let found = edges(&layout, ctb, 0, 0);
@@ -91,7 +95,7 @@ fn p10_likewise_lower_right_and_chroma() {
     let mut given = corner_slice();
     given.slice_map = vec![1, 1, 1, 0];
     let layout = given.layout();
-    assert_eq!(given.numbers(), [0; 5]);
+    assert_eq!(given.numbers(), [0; 6]);
     let ctb = layout.ctb(0);
     let luma = Plane::luma(&layout, &given.luma);
     // The line-buffer boundary is above row 31, so row 31 has no clip position below.
@@ -142,10 +146,10 @@ fn sizes() {
     for (size, number) in [(8, 0), (4096, 0), (0, 1), (12, 1), (4104, 1)] {
         let mut given = Given::plain(if number == 0 { size } else { 8 }, 8, 7, 8);
         given.width = size;
-        assert_eq!(given.numbers(), [number; 5], "width {size}");
+        assert_eq!(given.numbers(), [number; 6], "width {size}");
         let mut given = Given::plain(8, if number == 0 { size } else { 8 }, 7, 8);
         given.height = size;
-        assert_eq!(given.numbers(), [number; 5], "height {size}");
+        assert_eq!(given.numbers(), [number; 6], "height {size}");
     }
 }
 
