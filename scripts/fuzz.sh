@@ -16,7 +16,7 @@ if clang -O2 -fsanitize=fuzzer $sources "$library" -o target/fuzz/fuzz 2> target
     fuzzer=$!
     while sleep 10 && kill -0 "$fuzzer" 2> /dev/null; do grep -a '^#' target/fuzz/log | tail -n 1 | cut -c 1-70; done
     wait "$fuzzer" || { tail -n 40 target/fuzz/log >&2; exit 1; }
-    grep -a -A 5 '^calls by answer' target/fuzz/log
+    grep -a -A 6 '^calls by answer' target/fuzz/log
 else
     echo "libFuzzer is not at hand; a seeded generator: $runs runs from seed $seed"
     gcc -O2 $sources host/fuzz/driver.c "$library" -o target/fuzz/driver && target/fuzz/driver "$runs" "$seed" 2>&1

@@ -27,6 +27,7 @@ enum buffer_name {
     LUMA_OUTPUT,
     CHROMA_OUTPUT,
     ISOLATED,
+    CAUSES,
     BUFFERS
 };
 

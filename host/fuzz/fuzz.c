@@ -1,4 +1,4 @@
-/* Arbitrary arguments for the C interface: never a crash, never a write on rejection, never a number over 14.
+/* Arbitrary arguments for the C interface: never a crash, never a write on rejection, never a number that no fault has.
  *
  * The bytes that a fuzzer gives become a call: a picture that is accepted, made from a few of them, then changes at places and to numbers
  * and lengths that the others choose. So both the ways to reject and the filters behind them are reached. */
@@ -9,13 +9,16 @@
 #include <stdlib.h>
 #include <string.h>
 
-enum operation { CLASSES, LUMA_FILTER, CHROMA_FILTER, CROSS_COMPONENT, ISOLATED_TEST, OPERATIONS };
+enum operation { CLASSES, LUMA_FILTER, CHROMA_FILTER, CROSS_COMPONENT, ISOLATED_TEST, CLIP_CAUSES, OPERATIONS };
 
-static const char *const names[OPERATIONS] = {"classes", "luma", "chroma", "cross-component", "isolated"};
+static const char *const names[OPERATIONS] = {"classes", "luma", "chroma", "cross-component", "isolated", "clip causes"};
+
+/* How many answers there are: accepted, and the faults. */
+#define ANSWERS (ALF_POSITION + 1)
 
 /* How many calls of each operation had each answer; and for libFuzzer, which looks here for what is new. */
-static unsigned long answers[OPERATIONS][16];
-__attribute__((section("__libfuzzer_extra_counters"))) static uint8_t reached[OPERATIONS * 16];
+static unsigned long answers[OPERATIONS][ANSWERS];
+__attribute__((section("__libfuzzer_extra_counters"))) static uint8_t reached[OPERATIONS * ANSWERS];
 
 static struct buffer buffers[BUFFERS];
 
@@ -26,6 +29,7 @@ struct scalars {
     uint32_t slice_count;
     bool across_tiles, across_slices;
     uint8_t component;
+    uint32_t x, y;
 };
 
 /* The bytes given, one by one; zeros when they are used up. */
@@ -58,11 +62,11 @@ static uint32_t random_below(uint32_t *state, uint32_t n)
 static void print_answers(void)
 {
     fprintf(stderr, "calls by answer %8d", 0);
-    for (int n = 1; n <= 14; n++)
+    for (int n = 1; n < ANSWERS; n++)
         fprintf(stderr, "%8d", n);
     for (int op = 0; op < OPERATIONS; op++) {
         fprintf(stderr, "\n%-15s ", names[op]);
-        for (int n = 0; n <= 14; n++)
+        for (int n = 0; n < ANSWERS; n++)
             fprintf(stderr, "%8lu", answers[op][n]);
     }
     fprintf(stderr, "\n");
@@ -113,8 +117,10 @@ static struct scalars make_picture(struct bytes *from)
     uint32_t style = take(from), state = take4(from) | 1;
     struct scalars s = {
         8 + 8 * (take(from) % 16), 8 + 8 * (take(from) % 16), (uint8_t)(5 + take(from) % 3), (uint8_t)(8 + take(from) % 5), style & 1,
-        1 + take(from) % 4, style & 2, style & 4, (style >> 3) & 1,
+        1 + take(from) % 4, style & 2, style & 4, (style >> 3) & 1, 0, 0,
     };
+    s.x = take(from) % s.width;
+    s.y = take(from) % s.height;
     size_t ctb = (size_t)1 << s.ctb_log2;
     size_t columns = (s.width + ctb - 1) / ctb, rows = (s.height + ctb - 1) / ctb;
     set_length(&buffers[VIRTUAL_COLUMNS], s.width > 8 ? (style >> 4) & 1 : 0);
@@ -140,13 +146,15 @@ static struct scalars make_picture(struct bytes *from)
     fill(LUMA_OUTPUT, s.width * s.height, &state, 65536);
     fill(CHROMA_OUTPUT, s.width * s.height / 4, &state, 65536);
     fill(ISOLATED, 1, &state, 256);
+    fill(CAUSES, 4, &state, 256);
     return s;
 }
 
 /* Changes one number or switch, one length or one entry. */
 static void change(struct scalars *s, struct bytes *from)
 {
-    uint32_t what = take(from) % (9 + 2 * BUFFERS);
+    enum { NUMBERS = 11 };
+    uint32_t what = take(from) % (NUMBERS + 2 * BUFFERS);
     switch (what) {
     case 0: s->width = take4(from); return;
     case 1: s->height = take4(from); return;
@@ -157,10 +165,12 @@ static void change(struct scalars *s, struct bytes *from)
     case 6: s->across_tiles = take(from) & 1; return;
     case 7: s->across_slices = take(from) & 1; return;
     case 8: s->component = (uint8_t)take(from); return;
+    case 9: s->x = take4(from); return;
+    case 10: s->y = take4(from); return;
     }
-    int name = (int)(what - 9) / 2;
+    int name = (int)(what - NUMBERS) / 2;
     struct buffer *b = &buffers[name];
-    if ((what - 9) % 2 == 0) {
+    if ((what - NUMBERS) % 2 == 0) {
         /* the isolation test writes one byte, whatever length is asked for */
         if (name != ISOLATED)
             set_length(b, take4(from) % (MOST_ENTRIES + 1));
@@ -188,8 +198,10 @@ static uint8_t call(enum operation op, const struct scalars *s)
         return alf_chroma(PICTURE, s->component, PARAMETERS, SLICE(CHROMA), SLICE(CHROMA_OUTPUT));
     case CROSS_COMPONENT:
         return alf_cross_component(PICTURE, s->component, PARAMETERS, SLICE(LUMA), SLICE(CHROMA), SLICE(CHROMA_OUTPUT));
-    default:
+    case ISOLATED_TEST:
         return alf_isolated(PICTURE, SLICE(REGION), first_of(&buffers[ISOLATED]));
+    default:
+        return alf_clip_causes(PICTURE, s->x, s->y, SLICE(CAUSES));
     }
 }
 
@@ -202,8 +214,24 @@ static void fail(const char *what, enum operation op, unsigned number)
 /* The buffer that an operation writes where it accepts. */
 static int output_of(enum operation op)
 {
-    static const int outputs[OPERATIONS] = {CLASS_MAP, LUMA_OUTPUT, CHROMA_OUTPUT, CHROMA_OUTPUT, ISOLATED};
+    static const int outputs[OPERATIONS] = {CLASS_MAP, LUMA_OUTPUT, CHROMA_OUTPUT, CHROMA_OUTPUT, ISOLATED, CAUSES};
     return outputs[op];
+}
+
+/* Whether an operation can give n for entry k of its output. */
+static bool can_be(enum operation op, const struct scalars *s, size_t k, unsigned n)
+{
+    switch (op) {
+    case CLASSES:
+        return n % 32 < 25 && n / 32 < 4;
+    case ISOLATED_TEST:
+        return n < 2;
+    case CLIP_CAUSES:
+        /* left and right, the last two, have no line-buffer boundary */
+        return n <= ALF_CLIP_SUBPICTURE && (k < 2 || n != ALF_CLIP_LINE_BUFFER_BOUNDARY);
+    default:
+        return n < 1u << s->bit_depth;
+    }
 }
 
 /* What holds of an accepted output whatever the input was: each entry is one that the operation can give. */
@@ -213,8 +241,7 @@ static void check_entries(enum operation op, const struct scalars *s)
     for (size_t k = 0; k < b->length; k++) {
         const uint8_t *at = (const uint8_t *)first_of(b) + k * b->width;
         unsigned n = b->width == 2 ? at[0] | at[1] << 8 : at[0];
-        bool good = op == CLASSES ? n % 32 < 25 && n / 32 < 4 : op == ISOLATED_TEST ? n < 2 : n < 1u << s->bit_depth;
-        if (!good)
+        if (!can_be(op, s, k, n))
             fail("an output entry out of range", op, 0);
     }
 }
@@ -233,14 +260,14 @@ int LLVMFuzzerTestOneInput(const uint8_t *data, size_t size)
     for (int name = 0; name < BUFFERS; name++)
         remember(&buffers[name]);
     uint8_t number = call(op, &s);
-    if (number > 14)
-        fail("a number over 14", op, number);
+    if (number >= ANSWERS)
+        fail("a number that no fault has", op, number);
     for (int name = 0; name < BUFFERS; name++)
         if ((number != 0 || name != output_of(op)) && !unchanged(&buffers[name]))
             fail(number ? "something was written on rejection" : "an input was written", op, number);
     if (number == 0)
         check_entries(op, &s);
     answers[op][number]++;
-    reached[op * 16 + number] = 1;
+    reached[op * ANSWERS + number] = 1;
     return 0;
 }

@@ -1,5 +1,7 @@
-//! Which kinds of picture a run has seen.
+//! Which kinds of picture a run has seen, and which causes of clip positions.
 use crate::input::Input;
+use crate::run::Outcome;
+use raspbegonia::ClipCause;
 use std::fmt;
 
 /// A kind by its name, and whether a picture is of it.
@@ -78,5 +80,76 @@ impl fmt::Display for Coverage {
     fn fmt(&self, f: &mut fmt::Formatter) -> fmt::Result {
         let parts: Vec<String> = self.0.iter().zip(KINDS).map(|(seen, kind)| format!("{} {seen}", kind.0)).collect();
         write!(f, "{}", parts.join(", "))
+    }
+}
+
+/// The sides of a sample, in the order of the causes.
+const SIDES: [&str; 4] = ["top", "bottom", "left", "right"];
+
+/// Whether a cause can be that of a side: columns have no line-buffer boundary.
+fn can_close(side: usize, cause: ClipCause) -> bool {
+    cause != ClipCause::LineBufferBoundary || side < 2
+}
+
+/// How many positions had which cause on which side, and which cause stood behind which.
+#[derive(Default)]
+pub struct CauseCoverage {
+    asked: usize,
+    outside: usize,
+    met: [[usize; 6]; 4],
+    behind: [[usize; 6]; 6],
+}
+
+impl CauseCoverage {
+    /// One position that was asked about.
+    pub fn count(&mut self, outcome: &Outcome) {
+        self.asked += 1;
+        self.outside += usize::from(outcome.number == 15);
+        if outcome.number == 0 {
+            for (side, number) in outcome.output.iter().map(|n| usize::from(*n)).enumerate() {
+                assert!(can_close(side, ClipCause::ALL[number]), "{} closed by number {number}", SIDES[side]);
+                self.met[side][number] += 1;
+            }
+        }
+    }
+
+    /// On a side a first cause was taken away, and another showed.
+    pub fn count_behind(&mut self, first: ClipCause, next: u16) {
+        self.behind[usize::from(first.number())][usize::from(next)] += 1;
+    }
+
+    /// What was not met: a position outside, a cause on a side that it can close, a cause behind another.
+    pub fn missing(&self) -> Vec<String> {
+        let mut missing = self.never_behind();
+        if self.outside == 0 {
+            missing.push("no position outside".to_string());
+        }
+        for (side, name) in SIDES.iter().enumerate() {
+            let met = |cause: &ClipCause| self.met[side][usize::from(cause.number())] > 0;
+            let never = ClipCause::ALL.into_iter().filter(|cause| can_close(side, *cause) && !met(cause));
+            missing.extend(never.map(|cause| format!("{name} never closed by {cause}")));
+        }
+        missing
+    }
+
+    /// Of the causes that can be taken away, each later one has to have stood behind each earlier one, or the order was not tried.
+    fn never_behind(&self) -> Vec<String> {
+        let from = usize::from(ClipCause::VirtualBoundary.number());
+        let pairs = (from..6).flat_map(|first| (first + 1..6).map(move |next| (first, next)));
+        pairs
+            .filter(|(first, next)| self.behind[*first][*next] == 0)
+            .map(|(first, next)| format!("{} never behind {}", ClipCause::ALL[next], ClipCause::ALL[first]))
+            .collect()
+    }
+}
+
+impl fmt::Display for CauseCoverage {
+    fn fmt(&self, f: &mut fmt::Formatter) -> fmt::Result {
+        write!(f, "{} positions asked, {} of them outside the picture", self.asked, self.outside)?;
+        for (side, met) in SIDES.iter().zip(&self.met) {
+            let parts: Vec<String> = ClipCause::ALL.iter().zip(met).map(|(cause, n)| format!("{cause} {n}")).collect();
+            write!(f, "; {side}: {}", parts.join(", "))?;
+        }
+        Ok(())
     }
 }

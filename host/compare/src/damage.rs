@@ -1,5 +1,6 @@
 //! Ways to spoil an accepted input: at least one for each cause of rejection.
 use crate::input::{Input, Operation};
+use crate::position;
 use crate::random::Random;
 
 /// A way to spoil: the number that it leads to, which operations judge it, and the change. The change returns false where the input has no place for it.
@@ -36,6 +37,10 @@ fn classes(operation: Operation) -> bool {
 
 fn region(operation: Operation) -> bool {
     operation == Operation::Isolated
+}
+
+fn causes(operation: Operation) -> bool {
+    operation == Operation::ClipCauses
 }
 
 /// Makes a list one longer or one shorter.
@@ -154,6 +159,7 @@ pub const DAMAGES: &[Damage] = &[
     damage(5, "chroma output's length", component, |i, r| resize(&mut i.chroma_output, r)),
     damage(5, "class map's length", classes, |i, r| resize(&mut i.class_map, r)),
     damage(5, "region's length", region, |i, r| resize(&mut i.region, r)),
+    damage(5, "causes' length", causes, |i, r| resize(&mut i.causes, r)),
     damage(6, "virtual columns", every, |i, r| {
         set(&mut i.virtual_columns, bad_boundaries(r, i.width, 1 << i.ctb_log2))
     }),
@@ -196,6 +202,7 @@ pub const DAMAGES: &[Damage] = &[
     damage(12, "chroma sample", component, |i, r| bad_sample(&mut i.chroma, r, i.bit_depth)),
     damage(13, "address", filters, bad_address),
     damage(14, "region's entry", region, |i, r| put(&mut i.region, r, |r| over(r, 2))),
+    damage(15, "position", causes, bad_position),
 ];
 
 /// Spoils luma's input too: a CTB's chroma parameters are then to be 0.
@@ -232,4 +239,10 @@ fn bad_address(input: &mut Input, random: &mut Random) -> bool {
     let at = random.index(input.ctb_list.len() + 1);
     input.ctb_list.insert(at, address);
     true
+}
+
+/// A position that the picture does not have.
+fn bad_position(input: &mut Input, random: &mut Random) -> bool {
+    let outside = position::outside(random, input);
+    set(&mut input.position, outside)
 }

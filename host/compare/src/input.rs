@@ -7,17 +7,20 @@ pub enum Operation {
     Chroma,
     CrossComponent,
     Isolated,
+    ClipCauses,
 }
 
 impl Operation {
-    pub const ALL: [Operation; 5] = [
+    pub const ALL: [Operation; 6] = [
         Operation::Classes,
         Operation::Luma,
         Operation::Chroma,
         Operation::CrossComponent,
         Operation::Isolated,
+        Operation::ClipCauses,
     ];
-    pub const WITH_OUTPUT: [Operation; 4] = [Operation::Classes, Operation::Luma, Operation::Chroma, Operation::CrossComponent];
+    /// Those that write an entry for each block or sample.
+    pub const WITH_PLANE: [Operation; 4] = [Operation::Classes, Operation::Luma, Operation::Chroma, Operation::CrossComponent];
 
     pub fn is_filter(self) -> bool {
         matches!(self, Operation::Luma | Operation::Chroma | Operation::CrossComponent)
@@ -60,11 +63,14 @@ pub struct Input {
     pub luma: Vec<u16>,
     pub chroma: Vec<u16>,
     pub region: Vec<u8>,
-    /// What stands in the class map, the luma output, the chroma output and the isolation test's answer before the call.
+    /// Column and row of a luma sample.
+    pub position: (u32, u32),
+    /// What stands in the class map, the luma output, the chroma output, the isolation test's answer and the causes before the call.
     pub class_map: Vec<u8>,
     pub luma_output: Vec<u16>,
     pub chroma_output: Vec<u16>,
     pub isolated: u8,
+    pub causes: Vec<u8>,
 }
 
 impl Input {

@@ -34,7 +34,10 @@ pub fn virtual_boundaries(random: &mut Random, size: u32, ctb: u32) -> Vec<u16> 
         }
         // steps that are short, so that three fit
         let last = (size - 8).min(first + ctb);
-        let at = 8 * random.between(i64::from(first / 8), i64::from(last / 8)) as u32;
+        let any = 8 * random.between(i64::from(first / 8), i64::from(last / 8)) as u32;
+        // now and then on a CTB's side, so that both can close one edge
+        let side = any / ctb * ctb;
+        let at = if side >= first && random.once_in(4) { side } else { any };
         found.push(at as u16);
         first = at + ctb;
     }
@@ -156,9 +159,11 @@ pub fn layout(random: &mut Random, ctb_log2: u8) -> Input {
         luma: Vec::new(),
         chroma: Vec::new(),
         region: Vec::new(),
+        position: (0, 0),
         class_map: Vec::new(),
         luma_output: Vec::new(),
         chroma_output: Vec::new(),
         isolated: 0,
+        causes: Vec::new(),
     }
 }

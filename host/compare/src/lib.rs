@@ -5,6 +5,7 @@ pub mod guarded;
 pub mod input;
 pub mod layout;
 pub mod picture;
+pub mod position;
 pub mod random;
 pub mod region;
 pub mod run;

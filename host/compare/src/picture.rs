@@ -1,6 +1,7 @@
 //! Random pictures that are accepted: a layout, filters, parameters, samples, and outputs that hold something else before the call.
 use crate::input::Input;
 use crate::layout::layout;
+use crate::position;
 use crate::random::Random;
 use crate::region;
 
@@ -105,6 +106,11 @@ pub fn samples(random: &mut Random, width: usize, height: usize, bit_depth: u8) 
     plane
 }
 
+/// What stands in the causes of a position before the call.
+pub fn causes(random: &mut Random) -> Vec<u8> {
+    (0..4).map(|_| random.byte(256)).collect()
+}
+
 /// An accepted picture, whole. The outputs hold random numbers, so that what is not written shows.
 pub fn picture(random: &mut Random, ctb_log2: u8) -> Input {
     let mut input = layout(random, ctb_log2);
@@ -119,9 +125,11 @@ pub fn picture(random: &mut Random, ctb_log2: u8) -> Input {
     input.luma = samples(random, width, height, input.bit_depth);
     input.chroma = samples(random, width / 2, height / 2, input.bit_depth);
     input.region = region::some_region(random, &input);
+    input.position = position::inside(random, &input);
     input.class_map = (0..width * height / 16).map(|_| random.byte(256)).collect();
     input.luma_output = (0..input.luma.len()).map(|_| random.next() as u16).collect();
     input.chroma_output = (0..input.chroma.len()).map(|_| random.next() as u16).collect();
     input.isolated = random.pick(&[0, 1, 255]);
+    input.causes = causes(random);
     input
 }

@@ -9,18 +9,24 @@ pub struct Outcome {
     pub output: Vec<u16>,
 }
 
+fn widened(bytes: &[u8]) -> Vec<u16> {
+    bytes.iter().map(|n| u16::from(*n)).collect()
+}
+
 /// What stands in the operation's output before the call.
 pub fn before(operation: Operation, input: &Input) -> Vec<u16> {
     match operation {
-        Operation::Classes => input.class_map.iter().map(|n| u16::from(*n)).collect(),
+        Operation::Classes => widened(&input.class_map),
         Operation::Luma => input.luma_output.clone(),
         Operation::Chroma | Operation::CrossComponent => input.chroma_output.clone(),
         Operation::Isolated => vec![u16::from(input.isolated)],
+        Operation::ClipCauses => widened(&input.causes),
     }
 }
 
-/// The input in guarded memory that cannot be written.
-struct Memory {
+/// The input in guarded memory that cannot be written; all but its numbers and switches, which a call takes from the input itself.
+pub struct Memory {
+    side: Side,
     u8s: Vec<Guarded<u8>>,
     u16s: Vec<Guarded<u16>>,
     i16s: Vec<Guarded<i16>>,
@@ -28,7 +34,7 @@ struct Memory {
 }
 
 impl Memory {
-    fn new(input: &Input, side: Side) -> Self {
+    pub fn new(input: &Input, side: Side) -> Self {
         let u8s = [
             &input.tile_columns,
             &input.tile_rows,
@@ -43,6 +49,7 @@ impl Memory {
         let u16s = [&input.virtual_columns, &input.virtual_rows, &input.luma, &input.chroma];
         let i16s = [&input.bank, &input.fixed_filters];
         Memory {
+            side,
             u8s: u8s.iter().map(|v| Guarded::read_only(v, side)).collect(),
             u16s: u16s.iter().map(|v| Guarded::read_only(v, side)).collect(),
             i16s: i16s.iter().map(|v| Guarded::read_only(v, side)).collect(),
@@ -78,61 +85,89 @@ impl Memory {
             ctb_list: self.u32s[0].get(),
         }
     }
-}
 
-/// The library's outcome. Where the model rejects, the output cannot be written either: a write is then a crash.
-pub fn library(operation: Operation, input: &Input, side: Side, rejected: bool) -> Outcome {
-    let memory = Memory::new(input, side);
-    let (picture, parameters) = (memory.picture(input), memory.parameters());
-    let fixed = raspbegonia::FixedTables {
-        filters: memory.i16s[1].get(),
-        map: memory.u8s[7].get(),
-    };
-    let (luma, chroma) = (memory.u16s[2].get(), memory.u16s[3].get());
-    if operation == Operation::Isolated {
-        let answer = raspbegonia::isolated(&picture, memory.u8s[8].get());
-        let written = answer.map_or(input.isolated, u8::from);
-        return Outcome {
-            number: number(answer.map(|_| ())),
-            output: vec![u16::from(written)],
-        };
+    fn fixed(&self) -> raspbegonia::FixedTables<'_> {
+        raspbegonia::FixedTables {
+            filters: self.i16s[1].get(),
+            map: self.u8s[7].get(),
+        }
     }
-    if operation == Operation::Classes {
-        let mut map = if rejected {
-            Guarded::read_only(&input.class_map, side)
+
+    /// A call whose output holds `old` before it. Where the model rejects, the output cannot be written either: a write is then a crash.
+    fn call<T: Copy + Into<u16>>(&self, old: &[T], rejected: bool, call: impl FnOnce(&mut [T]) -> Answer) -> Outcome {
+        let mut output = if rejected {
+            Guarded::read_only(old, self.side)
         } else {
-            Guarded::new(&input.class_map, side)
+            Guarded::new(old, self.side)
         };
-        let answer = raspbegonia::classes(&picture, luma, map.get_mut());
-        return Outcome {
+        let answer = call(output.get_mut());
+        Outcome {
             number: number(answer),
-            output: map.get().iter().map(|n| u16::from(*n)).collect(),
-        };
-    }
-    let old = before(operation, input);
-    let mut output = if rejected {
-        Guarded::read_only(&old, side)
-    } else {
-        Guarded::new(&old, side)
-    };
-    let answer = match operation {
-        Operation::Luma => raspbegonia::luma(&picture, &parameters, &fixed, luma, output.get_mut()),
-        Operation::Chroma => raspbegonia::chroma(&picture, input.component, &parameters, chroma, output.get_mut()),
-        _ => raspbegonia::cross_component(&picture, input.component, &parameters, luma, chroma, output.get_mut()),
-    };
-    Outcome {
-        number: number(answer),
-        output: output.get().to_vec(),
+            output: output.get().iter().map(|n| (*n).into()).collect(),
+        }
     }
 }
 
-fn number(answer: Result<(), raspbegonia::Fault>) -> u8 {
+type Answer = Result<(), raspbegonia::Fault>;
+
+fn number(answer: Answer) -> u8 {
     answer.map_or_else(|fault| fault.number(), |()| 0)
 }
 
-/// The model's outcome.
-pub fn model(operation: Operation, input: &Input) -> Outcome {
-    let layout = model::Layout {
+/// The library's outcome.
+pub fn library(operation: Operation, input: &Input, side: Side, rejected: bool) -> Outcome {
+    library_in(&Memory::new(input, side), operation, input, rejected)
+}
+
+/// The same, where the input stands in memory already.
+fn library_in(memory: &Memory, operation: Operation, input: &Input, rejected: bool) -> Outcome {
+    let (picture, parameters, fixed) = (memory.picture(input), memory.parameters(), memory.fixed());
+    let (luma, chroma) = (memory.u16s[2].get(), memory.u16s[3].get());
+    match operation {
+        Operation::Classes => memory.call(&input.class_map, rejected, |map| raspbegonia::classes(&picture, luma, map)),
+        Operation::Luma => memory.call(&input.luma_output, rejected, |output| {
+            raspbegonia::luma(&picture, &parameters, &fixed, luma, output)
+        }),
+        Operation::Chroma => memory.call(&input.chroma_output, rejected, |output| {
+            raspbegonia::chroma(&picture, input.component, &parameters, chroma, output)
+        }),
+        Operation::CrossComponent => memory.call(&input.chroma_output, rejected, |output| {
+            raspbegonia::cross_component(&picture, input.component, &parameters, luma, chroma, output)
+        }),
+        Operation::Isolated => isolated(&picture, memory.u8s[8].get(), input.isolated),
+        Operation::ClipCauses => clip_causes(memory, &picture, input, rejected),
+    }
+}
+
+/// The wrapper keeps the isolation test's answer for itself; what would stand in a caller's byte follows from it.
+fn isolated(picture: &raspbegonia::Picture, region: &[u8], old: u8) -> Outcome {
+    let answer = raspbegonia::isolated(picture, region);
+    Outcome {
+        number: number(answer.map(|_| ())),
+        output: vec![u16::from(answer.map_or(old, u8::from))],
+    }
+}
+
+/// By numbers; and the wrapper's named causes have to be the same.
+fn clip_causes(memory: &Memory, picture: &raspbegonia::Picture, input: &Input, rejected: bool) -> Outcome {
+    let (x, y) = input.position;
+    let outcome = memory.call(&input.causes, rejected, |causes| {
+        raspbegonia::clip_cause_numbers(picture, x, y, causes)
+    });
+    if input.causes.len() == 4 {
+        let named = raspbegonia::clip_causes(picture, x, y);
+        let numbers = named.map(|causes| causes.sides().map(|cause| u16::from(cause.number())).to_vec());
+        let expected = match outcome.number {
+            0 => Ok(outcome.output.clone()),
+            fault => Err(fault),
+        };
+        assert_eq!(numbers.map_err(|fault| fault.number()), expected, "causes by name and by number");
+    }
+    outcome
+}
+
+fn layout_of(input: &Input) -> model::Layout<'_> {
+    model::Layout {
         width: input.width,
         height: input.height,
         ctb_log2: input.ctb_log2,
@@ -148,7 +183,22 @@ pub fn model(operation: Operation, input: &Input) -> Outcome {
         slice_map: &input.slice_map,
         subpic_map: &input.subpic_map,
         subpic_across: &input.subpic_across,
-    };
+    }
+}
+
+/// A call of the model whose output holds `old` before it.
+fn filled<T: Copy + Into<u16>>(old: &[T], call: impl FnOnce(&mut [T]) -> u8) -> Outcome {
+    let mut output = old.to_vec();
+    let number = call(&mut output);
+    Outcome {
+        number,
+        output: output.into_iter().map(T::into).collect(),
+    }
+}
+
+/// The model's outcome.
+pub fn model(operation: Operation, input: &Input) -> Outcome {
+    let layout = layout_of(input);
     let parameters = model::Parameters {
         slice_params: &input.slice_params,
         bank: &input.bank,
@@ -159,40 +209,40 @@ pub fn model(operation: Operation, input: &Input) -> Outcome {
         filters: &input.fixed_filters,
         map: &input.fixed_map,
     };
-    let mut output = before(operation, input);
-    let number = match operation {
-        Operation::Classes => {
-            let mut map = input.class_map.clone();
-            let number = model::classes(&layout, &input.luma, &mut map);
-            output = map.iter().map(|n| u16::from(*n)).collect();
-            number
-        }
-        Operation::Luma => model::luma(&layout, &parameters, &fixed, &input.luma, &mut output),
-        Operation::Chroma => model::chroma(&layout, input.component, &parameters, &input.chroma, &mut output),
-        Operation::CrossComponent => model::cross_component(&layout, input.component, &parameters, &input.luma, &input.chroma, &mut output),
-        Operation::Isolated => {
-            let mut isolated = input.isolated;
-            let number = model::isolated(&layout, &input.region, &mut isolated);
-            output = vec![u16::from(isolated)];
-            number
-        }
-    };
-    Outcome { number, output }
+    let (luma, chroma, (x, y)) = (&input.luma, &input.chroma, input.position);
+    match operation {
+        Operation::Classes => filled(&input.class_map, |map| model::classes(&layout, luma, map)),
+        Operation::Luma => filled(&input.luma_output, |output| model::luma(&layout, &parameters, &fixed, luma, output)),
+        Operation::Chroma => filled(&input.chroma_output, |output| {
+            model::chroma(&layout, input.component, &parameters, chroma, output)
+        }),
+        Operation::CrossComponent => filled(&input.chroma_output, |output| {
+            model::cross_component(&layout, input.component, &parameters, luma, chroma, output)
+        }),
+        Operation::Isolated => filled(&[input.isolated], |answer| model::isolated(&layout, &input.region, &mut answer[0])),
+        Operation::ClipCauses => filled(&input.causes, |causes| model::clip_causes(&layout, x, y, causes)),
+    }
 }
 
 /// Runs both and returns the outcome, which must be the same; the first entry that differs is named.
 pub fn agreed(operation: Operation, input: &Input, side: Side) -> Outcome {
+    agreed_in(&Memory::new(input, side), operation, input)
+}
+
+/// The same, where the input stands in memory already.
+pub fn agreed_in(memory: &Memory, operation: Operation, input: &Input) -> Outcome {
     let expected = model(operation, input);
-    let found = library(operation, input, side, expected.number != 0);
+    let found = library_in(memory, operation, input, expected.number != 0);
     if found != expected {
         let at = found.output.iter().zip(&expected.output).position(|(f, e)| f != e);
         let entry = at.map(|k| format!("entry {k} is {}, the model's {}", found.output[k], expected.output[k]));
         panic!(
-            "{operation:?} of {} by {}, CTB {}, {} bits: answer {}, the model's {}; {}",
+            "{operation:?} of {} by {}, CTB {}, {} bits, position {:?}: answer {}, the model's {}; {}",
             input.width,
             input.height,
             input.ctb(),
             input.bit_depth,
+            input.position,
             found.number,
             expected.number,
             entry.unwrap_or_else(|| "the outputs are equal".into())

@@ -1,4 +1,4 @@
-//! Whatever is rewritten outside an isolated region, nothing inside it changes, for each operation that has an output.
+//! Whatever is rewritten outside an isolated region, nothing inside it changes, for each operation that writes a plane or a map.
 use compare::guarded::Side;
 use compare::input::{Input, Operation};
 use compare::picture::{ctb_list, ctb_params, picture, samples};
@@ -68,7 +68,7 @@ fn two_runs(seed: u64, seen: &mut Seen) {
     }
     let other = rewritten(&input, &mut random);
     let isolated = agreed(Operation::Isolated, &input, Side::After).output == [1];
-    for operation in Operation::WITH_OUTPUT {
+    for operation in Operation::WITH_PLANE {
         if operation.has_component() && input.chroma_format == 0 {
             continue;
         }
