@@ -1,14 +1,17 @@
 //! Pictures for people, from planes and tables.
+use crate::causes::Causes;
 use crate::layout::{ctb_at, tile_of, Layout, CTB, VIRTUAL_COLUMNS, VIRTUAL_ROWS};
 use crate::planes::{ratio, size, Planes, CB, CR, HEIGHT, WIDTH, Y};
 use crate::png::Image;
+use crate::text;
+use raspbegonia::{ClipCause, ClipCauses};
 
 /// How often a difference is amplified in `difference.png`.
 pub const AMPLIFICATION: i32 = 8;
 /// The part of the picture that `closeup.png` shows, and how often it is enlarged.
 pub const CLOSEUP: (usize, usize, usize, usize) = (308, 132, 80, 80);
 pub const CLOSEUP_ZOOM: usize = 5;
-/// How often `classes.png` and `layout.png` are enlarged.
+/// How often `classes.png`, `layout.png` and `causes.png` are enlarged.
 pub const MAP_ZOOM: usize = 2;
 
 /// From ten bits in video range to RGB by the matrix of BT.709, in integers of 2^-16.
@@ -69,6 +72,7 @@ const TILE_LINE: [u8; 3] = [255, 220, 0];
 const SLICE_LINE: [u8; 3] = [255, 255, 255];
 const SUBPICTURE_LINE: [u8; 3] = [0, 230, 255];
 const VIRTUAL_LINE: [u8; 3] = [255, 0, 200];
+const LINE_BUFFER_LINE: [u8; 3] = [70, 205, 60];
 
 /// The division of the picture, drawn over its luma, with a region hatched.
 pub fn layout(layout: &Layout, isolated: &[u8], luma: &[u16]) -> Image {
@@ -116,6 +120,58 @@ fn virtual_boundaries(image: &mut Image) {
         for x in (0..image.width).filter(|x| x % (2 * DASH) < DASH) {
             (row - 1..=row).for_each(|y| image.set(x, y, VIRTUAL_LINE));
         }
+    }
+}
+
+/// The colour of a cause: that of its line in the layout.
+fn cause_colour(cause: ClipCause) -> Option<[u8; 3]> {
+    match cause {
+        ClipCause::Open => None,
+        ClipCause::LineBufferBoundary => Some(LINE_BUFFER_LINE),
+        ClipCause::VirtualBoundary => Some(VIRTUAL_LINE),
+        ClipCause::Tile => Some(TILE_LINE),
+        ClipCause::Slice => Some(SLICE_LINE),
+        ClipCause::Subpicture => Some(SUBPICTURE_LINE),
+    }
+}
+
+/// The colour of what closes a sample's sides; where several do, stripes take turns.
+fn closed_colour(causes: ClipCauses, stripe: usize) -> Option<[u8; 3]> {
+    let colours: Vec<[u8; 3]> = causes.sides().into_iter().filter_map(cause_colour).collect();
+    (!colours.is_empty()).then(|| colours[stripe % colours.len()])
+}
+
+/// What closes the sides of each sample, drawn over a dark luma, with the names of the colours below.
+pub fn causes(causes: &Causes, luma: &[u16]) -> Image {
+    const STRIPE: usize = 3;
+    const ROOM: usize = 32;
+    let high = HEIGHT * MAP_ZOOM;
+    let mut image = Image::new(WIDTH * MAP_ZOOM, high + ROOM, |x, y| {
+        if y >= high {
+            return [0; 3];
+        }
+        let stripe = (x + y) / STRIPE;
+        let (x, y) = (x / MAP_ZOOM, y / MAP_ZOOM);
+        let dark = (u32::from(luma[y * WIDTH + x]) / 10) as u8;
+        closed_colour(causes.at(x, y), stripe).map_or([dark; 3], |colour| colour.map(|v| v / 8 * 7 + dark / 4))
+    });
+    legend(&mut image, high, ROOM);
+    image
+}
+
+/// A line of swatches with the causes' names.
+fn legend(image: &mut Image, top: usize, room: usize) {
+    const ZOOM: usize = 2;
+    const GAP: usize = 8;
+    let side = text::height(ZOOM);
+    let top = top + (room - side) / 2;
+    let mut left = GAP;
+    for (cause, colour) in ClipCause::ALL.iter().filter_map(|cause| Some((cause, cause_colour(*cause)?))) {
+        for (x, y) in (0..side).flat_map(|y| (0..side).map(move |x| (x, y))) {
+            image.set(left + x, top + y, colour);
+        }
+        text::draw(image, (left + side + GAP, top), ZOOM, [255; 3], cause.name());
+        left += side + text::width(cause.name(), ZOOM) + 3 * GAP;
     }
 }
 

@@ -1,4 +1,5 @@
 //! The pictures that the demo writes.
+use crate::causes::Causes;
 use crate::draw;
 use crate::filter::Outputs;
 use crate::layout::Layout;
@@ -22,7 +23,7 @@ fn shown(name: &'static str, shows: impl Into<String>, image: Image) -> Shown {
 }
 
 /// All of them; `isolated` is a region to mark.
-pub fn pictures(layout: &Layout, isolated: &[u8], clean: &Planes, before: &Planes, outputs: &Outputs) -> Vec<Shown> {
+pub fn pictures(layout: &Layout, isolated: &[u8], causes: &Causes, clean: &Planes, before: &Planes, outputs: &Outputs) -> Vec<Shown> {
     let [coded, filtered, ideal] = [before, &outputs.planes, clean].map(draw::picture);
     let closeup = draw::closeup(&[&coded, &filtered, &ideal]);
     let difference = format!(
@@ -35,6 +36,7 @@ pub fn pictures(layout: &Layout, isolated: &[u8], clean: &Planes, before: &Plane
     );
     let classes = "classes of 4 x 4 blocks: grey none, green diagonal, orange straight; brighter is more active";
     let division = "slices tinted, tiles yellow, subpictures blue with the isolated one hatched, virtual boundaries dashed";
+    let closed = "what closes the sides of each sample, by colour; the names are below";
     vec![
         shown("before.png", "the coded picture, in RGB by BT.709 from video range", coded),
         shown("after.png", "the same, filtered", filtered),
@@ -42,6 +44,7 @@ pub fn pictures(layout: &Layout, isolated: &[u8], clean: &Planes, before: &Plane
         shown("closeup.png", enlarged, closeup),
         shown("classes.png", classes, draw::classes(&outputs.class_map)),
         shown("layout.png", division, draw::layout(layout, isolated, &before[Y])),
+        shown("causes.png", closed, draw::causes(causes, &before[Y])),
     ]
 }
 

@@ -1,4 +1,5 @@
 //! Filters a built-in picture with every operation of the library, writes pictures of what happened, and prints what changed.
+mod causes;
 mod choose;
 mod coding;
 mod draw;
@@ -12,6 +13,7 @@ mod reject;
 mod report;
 mod scene;
 mod tables;
+mod text;
 
 use crate::planes::Y;
 use std::ffi::OsString;
@@ -83,7 +85,10 @@ fn run(folder: &Path) -> Result<String, String> {
     let rewritings = [rewrite(ISOLATED)?, rewrite(OPEN)?];
     let rejections = reject::attempts(setup, &params, &before[Y]);
     check(&rewritings, &rejections)?;
-    let pictures = gallery::pictures(&layout, &layout.subpicture_region(ISOLATED), &clean, &before, &outputs);
+    let causes = causes::Causes::of(&setup.picture()).map_err(rejected)?;
+    let hard = causes::hardest(&before[Y], &outputs.planes[Y]);
+    let region = layout.subpicture_region(ISOLATED);
+    let pictures = gallery::pictures(&layout, &region, &causes, &clean, &before, &outputs);
     gallery::write(folder, &pictures)?;
     Ok([
         report::picture(),
@@ -91,6 +96,7 @@ fn run(folder: &Path) -> Result<String, String> {
         report::choices(&params),
         report::classes(&outputs.class_map),
         report::quality(&clean, &before, &outputs.planes),
+        report::hard_row(&hard, &causes),
         report::isolation(&rewritings),
         report::rejections(&rejections),
         report::files(&pictures),

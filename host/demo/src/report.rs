@@ -1,4 +1,5 @@
 //! The printed report. It has no times and no folders, so that two runs print the same.
+use crate::causes::{Causes, HardRow};
 use crate::filter::{Outputs, CTB_NUMBERS};
 use crate::gallery::Shown;
 use crate::isolation::{Count, Rewriting};
@@ -112,6 +113,31 @@ pub fn quality(clean: &Planes, before: &Planes, after: &Planes) -> String {
         text += &format!("  {:<9}  {a:>6.2}  {b:>6.2}  {:>+6.2}\n", NAMES[component], b - a);
     }
     text
+}
+
+/// What closes the hardest row of the difference, and for comparison the next edge between CTBs.
+pub fn hard_row(hard: &HardRow, causes: &Causes) -> String {
+    let rows = [hard.row, (hard.row + 1).next_multiple_of(CTB)];
+    let edges: String = rows.iter().filter(|&&row| row < HEIGHT).map(|&row| edge(row, causes)).collect();
+    format!(
+        "\nA hard row in the difference: rows {} and {} changed by {:.2} in luma on average, the rows next to them by {:.2}\n  \
+           between rows  columns     from above            from below            (what closes this edge, and the next between CTBs)\n{edges}",
+        hard.row - 1,
+        hard.row,
+        hard.beside,
+        hard.around,
+    )
+}
+
+/// What closes the edge above a row, a line for each run of columns.
+fn edge(row: usize, causes: &Causes) -> String {
+    let rows = format!("{} and {row}", row - 1);
+    let runs = causes.along(row).into_iter();
+    runs.map(|run| {
+        let columns = format!("{} to {}", run.first, run.last);
+        format!("  {rows:<12}  {columns:<10}  {:<20}  {}\n", run.upper, run.lower)
+    })
+    .collect()
 }
 
 /// What the isolation test said, and whether rewriting the outside bore it out.
