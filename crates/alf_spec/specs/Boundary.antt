@@ -56,7 +56,7 @@ module _ (l : Layout) (c n : Ctb) where
   unfoldable pub subpicDisables : Bool
   subpicDisables = not (eqb (subpicOf l c) (subpicOf l n)) && eqb (getD (l .subpicAcross) (subpicOf l c) 0) 0
 
-  -- one or more of these, as 8.8.5.5 has it; 02, card 1: "the order is tile, slice, subpicture"
+  -- which of these, of which 8.8.5.5 has one or more, or none: "the order is tile, slice, subpicture" (02, card 1)
   unfoldable pub stepCause : ClipCause
   stepCause = cond tileDisables Tile (cond sliceDisables Slice (cond subpicDisables Subpicture Open))
 
