@@ -1,6 +1,6 @@
 -- The clip positions of a sample of a piece are the piece's ends, where its outermost sample on that side has one; where that has one and the sample has
 -- none, the end is out of reach. In luma positions. Assumes nothing.
-use mathlib.Core.Path.{_≡_, sym, ap, _∙_, subst}
+use mathlib.Core.Path.{_≡_, sym, _∙_, subst}
 use mathlib.Core.Logic.{_⊎_, inl, inr, ⊎-elim, by-cases}
 use mathlib.Core.Bool.{true, true≢false}
 use mathlib.Core.Option.{Option, some, none}
@@ -17,7 +17,7 @@ use Rattle.alf_spec.proofs.IsolatedRegions.Reach.{Reach}
 use Rattle.alf_spec.proofs.IsolatedRegions.PastCtb.{Between}
 use Rattle.alf_spec.proofs.IsolatedRegions.ClipPositions.{Ends, stops, runs, Near, bound, Rule, line-rule, virtual-rule, side-rule, Found, Clear, clip-found}
 use Rattle.alf_pieces.specs.Pieces.{ctbLimit, Begins, at-side, at-boundary, at-line}
-use Rattle.alf_pieces.proofs.PieceEnds.{Inner, Span, start4, end4}
+use Rattle.alf_pieces.proofs.PieceEnds.{Inner, Span, bound-at, line-at, start4, end4}
 
 -- the end of a piece on that side
 abbrev pub tip : Side → ℕ → ℕ → ℕ
@@ -62,10 +62,9 @@ module _ (a : Axis) (ok : Regular a) (side : Side → ClipCause) (q lo hi : ℕ)
 
   -- they are the same for all of them
   same-rule : (d : Side) (e x y : ℕ) → Within x → Within y → Rule a x side d e → Rule a y side d e
-  same-rule d e x y w v (line-rule l at) = line-rule l (at ∙ ap (λ (p : ℕ). p * a .ctb + (a .ctb - 4)) (place x w ∙ sym (place y v)))
+  same-rule d e x y w v (line-rule l at) = line-rule l (at ∙ line-at a q x (place x w) ∙ sym (line-at a q y (place y v)))
   same-rule d e x y w v (virtual-rule m) = virtual-rule m
-  same-rule before e x y w v (side-rule at t) = side-rule (at ∙ ap (λ (p : ℕ). p * a .ctb) (place x w ∙ sym (place y v))) t
-  same-rule after e x y w v (side-rule at t) = side-rule (at ∙ ap (λ (p : ℕ). p * a .ctb + a .ctb) (place x w ∙ sym (place y v))) t
+  same-rule d e x y w v (side-rule at t) = side-rule (at ∙ bound-at a d q x (place x w) ∙ sym (bound-at a d q y (place y v))) t
 
   -- where no rule finds a clip position, none is near
   clash : (d : Side) (b x : ℕ) → Clear a x side d → Near d x b → Rule a x side d b → ⊥
@@ -79,10 +78,10 @@ module _ (a : Axis) (ok : Regular a) (side : Side → ClipCause) (q lo hi : ℕ)
 
     -- a clip position does not lie within the piece
     outside : (d : Side) (e : ℕ) → Rule a x side d e → (e ≤ lo) ⊎ (hi ≤ e)
-    outside d e (line-rule l at) = inner-outside e (inl (l, at ∙ ap (λ (p : ℕ). p * a .ctb + (a .ctb - 4)) (place x w)))
+    outside d e (line-rule l at) = inner-outside e (inl (l, at ∙ line-at a q x (place x w)))
     outside d e (virtual-rule m) = inner-outside e (inr m)
-    outside before e (side-rule at _) = inl (omega (arith, at ∙ ap (λ (p : ℕ). p * a .ctb) (place x w), s .from))
-    outside after e (side-rule at _) = inr (omega (arith, at ∙ ap (λ (p : ℕ). p * a .ctb + a .ctb) (place x w), s .upto))
+    outside before e (side-rule at _) = inl (omega (arith, at ∙ bound-at a before q x (place x w), s .from))
+    outside after e (side-rule at _) = inr (omega (arith, at ∙ bound-at a after q x (place x w), s .upto))
 
     -- so it is the end
     is-tip : (d : Side) (e : ℕ) → Found a x side d e → e ≡ tip d lo hi
@@ -117,18 +116,18 @@ module _ (a : Axis) (ok : Regular a) (side : Side → ClipCause) (q lo hi : ℕ)
       no-inner : (d : Side) → Clear a (outermost d lo hi) side d → Inner a q (tip d lo hi) → ⊥
       no-inner d n (inl l) =
           clash d (tip d lo hi) (outermost d lo hi) n (near-outer d)
-          (line-rule (l .0) (l .1 ∙ ap (λ (p : ℕ). p * a .ctb + (a .ctb - 4)) (sym (place (outermost d lo hi) (outer-within d)))))
+          (line-rule (l .0) (l .1 ∙ sym (line-at a q _ (place (outermost d lo hi) (outer-within d)))))
       no-inner d n (inr m) = clash d (tip d lo hi) (outermost d lo hi) n (near-outer d) (virtual-rule m)
 
       begin : Clear a lo side before → Begins a q lo → lo ≡ bound a before lo
-      begin n (at-side e) = e ∙ ap (λ (p : ℕ). p * a .ctb) (sym start)
+      begin n (at-side e) = e ∙ sym (bound-at a before q lo start)
       begin n (at-boundary m) = absurd (no-inner before n (inr (elem-mem lo (a .virtualBoundaries) m)))
       begin n (at-line l e) = absurd (no-inner before n (inl (l, e)))
 
       ended : (d : Side) → tip d lo hi < a .size → Clear a (outermost d lo hi) side d → tip d lo hi ≡ bound a d lo
       ended before h n = begin n (s .begins)
       ended after h n =
-          ⊎-elim (λ (e : hi ≡ ctbLimit a q). let end : hi ≡ q * a .ctb + a .ctb = omega arith in end ∙ ap (λ (p : ℕ). p * a .ctb + a .ctb) (sym start))
+          ⊎-elim (λ (e : hi ≡ ctbLimit a q). let end : hi ≡ q * a .ctb + a .ctb = omega arith in end ∙ sym (bound-at a after q lo start))
           (λ i. absurd (no-inner after n i)) (s .ends)
 
       by : (o : Option ℕ) → Ends (Found a (outermost d lo hi) side d) (Clear a (outermost d lo hi) side d) o → isNone o ≡ true → tip d lo hi ≡ bound a d lo

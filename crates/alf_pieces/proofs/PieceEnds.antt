@@ -14,7 +14,7 @@ use Rattle.alf_spec.specs.Boundary.{linePosition}
 use Rattle.alf_spec.specs.Padding.{isNone}
 use Rattle.alf_spec.proofs.Lists.{mem-elem, elem-mem}
 use Rattle.alf_spec.proofs.Axes.{Regular, ctb-of}
-use Rattle.alf_spec.proofs.IsolatedRegions.ClipPositions.{Ends, stops, runs, bound4, Rule, line-rule, virtual-rule, side-rule, Found, Clear, clip-found}
+use Rattle.alf_spec.proofs.IsolatedRegions.ClipPositions.{Ends, stops, runs, bound, bound4, Rule, line-rule, virtual-rule, side-rule, Found, Clear, clip-found}
 use Rattle.alf_pieces.specs.Pieces.{ctbLimit, ctbLine, runEnd, pieceEnd, Begins, at-side, at-boundary, at-line}
 
 -- where a piece may end within the CTB at place q: at its line-buffer boundary, at a virtual boundary
@@ -29,6 +29,19 @@ pub record Span (a : Axis) (q lo hi : ℕ) : Type 0 where
   pub begins : Begins a q lo
   pub whole : (b : ℕ) → Inner a q b → lo < b → hi ≤ b
   pub ends : (hi ≡ ctbLimit a q) ⊎ Inner a q hi
+
+-- ---- the boundaries of a position's CTB, by its place q
+
+abbrev ctbSide : Axis → Side → ℕ → ℕ
+ctbSide a before q = q * a .ctb
+ctbSide a after q = q * a .ctb + a .ctb
+
+pub bound-at : (a : Axis) (d : Side) (q x : ℕ) → x / a .ctb ≡ q → bound a d x ≡ ctbSide a d q
+bound-at a before q x e = ap (λ (p : ℕ). p * a .ctb) e
+bound-at a after q x e = ap (λ (p : ℕ). p * a .ctb + a .ctb) e
+
+pub line-at : (a : Axis) (q x : ℕ) → x / a .ctb ≡ q → linePosition a x ≡ ctbLine a q
+line-at a q x e = ap (λ (p : ℕ). p * a .ctb + (a .ctb - 4)) e
 
 -- ---- multiples of 4
 
@@ -67,13 +80,13 @@ module _ (a : Axis) (ok : Regular a) (side : Side → ClipCause) (q : ℕ) where
 
     -- where a rule finds a clip position after its last sample
     stop : (e : ℕ) → e ≡ x + 4 → Rule a (x + 3) side after e → (x + 4 ≡ ctbLimit a q) ⊎ Inner a q (x + 4)
-    stop e is (line-rule l at) = inr (inl (l, sym is ∙ at ∙ ap (λ (p : ℕ). p * a .ctb + (a .ctb - 4)) place))
+    stop e is (line-rule l at) = inr (inl (l, sym is ∙ at ∙ line-at a q (x + 3) place))
     stop e is (virtual-rule m) = inr (inr (rw (← is) m))
-    stop e is (side-rule at _) = let end : e ≡ q * a .ctb + a .ctb = at ∙ ap (λ (p : ℕ). p * a .ctb + a .ctb) place in inl (omega arith)
+    stop e is (side-rule at _) = let end : e ≡ q * a .ctb + a .ctb = at ∙ bound-at a after q (x + 3) place in inl (omega arith)
 
     -- where none does, none stands there
     clear : Clear a (x + 3) side after → Inner a q (x + 4) → ⊥
-    clear n (inl l) = n .noLine (l .0) (let at : linePosition a (x + 3) ≡ x + 4 = ap (λ (p : ℕ). p * a .ctb + (a .ctb - 4)) place ∙ sym (l .1) in omega arith)
+    clear n (inl l) = let at : linePosition a (x + 3) ≡ x + 4 = line-at a q (x + 3) place ∙ sym (l .1) in n .noLine (l .0) (omega arith)
     clear n (inr m) = n .free .0 (x + 4) m (omega arith)
 
     later : (b : ℕ) → Inner a q b → x < b → x + 4 ≤ b
@@ -86,7 +99,9 @@ module _ (a : Axis) (ok : Regular a) (side : Side → ClipCause) (q : ℕ) where
       on = omega (arith, t .on);
       moved = inr (omega (arith, t .on));
       most = t .most;
-      whole = λ b i h. by-cases (decLe b (x + 4)) (λ l. absurd (let here : b ≡ x + 4 = omega (arith, later b i h) in clear n (rw (← here) i))) (λ l. t .whole b i (omega arith));
+      whole = λ b i h. by-cases (decLe b (x + 4))
+          (λ l. let here : b ≡ x + 4 = omega (arith, later b i h) in absurd (clear n (rw (← here) i)))
+          (λ l. t .whole b i (omega arith));
       ends = t .ends;
     }
 

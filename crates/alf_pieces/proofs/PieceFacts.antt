@@ -2,7 +2,7 @@
 use mathlib.Core.Path.{_≡_, refl, sym, ap, _∙_, subst}
 use mathlib.Core.Bool.{Bool, true, false, _&&_, true≢false}
 use mathlib.Core.Option.{Option, some}
-use Prim.Native.Nat.{ℕ, pred, _+_, _*_, _/_, _%_, _≤_, _<_}
+use Prim.Native.Nat.{ℕ, pred, _*_, _/_, _%_, _≤_, _<_}
 use native.Mathlib.Nat.{mul-le-mul-right}
 use native.Mathlib.Omega.{arith}
 use lib.Dec.{leb, ltb}
@@ -20,7 +20,7 @@ use Rattle.alf_spec.proofs.IsolatedRegions.PastCtb.{past as past-ctb, beyond}
 use Rattle.alf_pieces.specs.declared.pieces.Piece.{Piece}
 use Rattle.alf_pieces.specs.Pieces.{ctbLimit, pieceEnd, pieceAt, Begins, PieceOf, PieceIn}
 use Rattle.alf_pieces.specs.Copies.{held}
-use Rattle.alf_pieces.proofs.PieceEnds.{Span, span, start4, end4, next-begins}
+use Rattle.alf_pieces.proofs.PieceEnds.{Span, bound-at, span, start4, end4, next-begins}
 use Rattle.alf_pieces.proofs.PieceClips.{tip, outermost, AtTip, cut, uncut, at-tip, open-bound, Meets, at-end, open-end, far-end, meets}
 use Rattle.alf_pieces.proofs.PieceReads.{own-is, own-sum, own-most, inside, reach-inside, clamped-same}
 
@@ -190,14 +190,9 @@ module _ (a : Axis) (ok : Regular a) (ratio : Ratio (a .ratio)) (side : Side →
         omega (arith, lt-own (a .ratio) (a .size) (hi / a .ratio) in-plane, boundary (a .ratio) ratio hi (end4 a ok q lo hi part))
 
     at-bound : (d : Side) → pastPiece d p v ≡ true → tip d lo hi ≡ bound a d X
-    at-bound d t = open-bound a ok side q lo hi part d (not-cut d t) (in-picture d t) ∙ same d
-      where
-        start-place : lo / a .ctb ≡ q
-        start-place = ctb-of a q lo (part .from) (omega (arith, part .filled, part .upto))
-
-        same : (d : Side) → bound a d lo ≡ bound a d X
-        same before = ap (λ (m : ℕ). m * a .ctb) (start-place ∙ sym place)
-        same after = ap (λ (m : ℕ). m * a .ctb + a .ctb) (start-place ∙ sym place)
+    at-bound d t =
+        let start-place = ctb-of a q lo (part .from) (omega (arith, part .filled, part .upto)) in
+        open-bound a ok side q lo hi part d (not-cut d t) (in-picture d t) ∙ bound-at a d q lo start-place ∙ sym (bound-at a d q X place)
 
     no-clip : (d : Side) (o o′ : Option ℕ) → Meets d (tip d lo hi) X (lumaPosition a (inside a u)) o o′ → isNone o′ ≡ true → isNone o ≡ true
     no-clip d _ _ at-end q = q

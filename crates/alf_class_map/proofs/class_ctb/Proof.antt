@@ -105,7 +105,8 @@ class-ctb-spec =
     loop-holds
     (λ c κs.
     let s = start c in
-    (s .pre .0 .rooms .grid, omega arith, omega arith, few s, omega (arith, height-bounds (s .args .picture) (s .pre .0 .rooms .sizes) (s .pre .0 .rooms .ctbSize), c .loop-test .taken, c .before .before .ctb-limit .ensures)))
+    let most = height-bounds (s .args .picture) (s .pre .0 .rooms .sizes) (s .pre .0 .rooms .ctbSize) in
+    (s .pre .0 .rooms .grid, omega arith, omega arith, few s, omega (arith, most, c .loop-test .taken, c .before .before .ctb-limit .ensures)))
     class-strip-requires
     loop-less
     loop-again

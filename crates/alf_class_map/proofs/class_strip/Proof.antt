@@ -106,7 +106,8 @@ class-strip-spec =
     loop-holds
     (λ c κs.
     let s = start c in
-    (s .pre .0 .rooms .grid, omega arith, omega arith, few s, omega (arith, width-bounds (s .args .picture) (s .pre .0 .rooms .sizes) (s .pre .0 .rooms .ctbSize), c .loop-test .taken, c .before .before .ctb-limit .ensures)))
+    let most = width-bounds (s .args .picture) (s .pre .0 .rooms .sizes) (s .pre .0 .rooms .ctbSize) in
+    (s .pre .0 .rooms .grid, omega arith, omega arith, few s, omega (arith, most, c .loop-test .taken, c .before .before .ctb-limit .ensures)))
     class-piece-requires
     loop-less
     loop-again

@@ -113,7 +113,8 @@ filter-ctb-spec =
     loop-holds
     (λ c κs.
     let s = start c in
-    (s .pre .0 .grid, omega arith, omega arith, few s, omega (arith, height-bounds (s .args .picture) (s .pre .0 .sizes) (s .pre .0 .ctbSize), c .loop-test .taken, c .before .before .ctb-limit .ensures)))
+    let most = height-bounds (s .args .picture) (s .pre .0 .sizes) (s .pre .0 .ctbSize) in
+    (s .pre .0 .grid, omega arith, omega arith, few s, omega (arith, most, c .loop-test .taken, c .before .before .ctb-limit .ensures)))
     filter-strip-requires
     loop-less
     loop-again
