@@ -5,16 +5,16 @@ use mathlib.Core.Option.{Option, some, none, Option·map}
 use Prim.Native.Nat.{ℕ, _≤_}
 use Rattle.alf_spec.specs.declared.Clip.{Clip}
 use Rattle.alf_spec.specs.Geometry.{Side, before, after, Axis}
-use Rattle.alf_boundary.specs.declared.clips.Edge.{Edge}
-use Rattle.alf_boundary.specs.declared.clips.Edge.the-variants.{At, Open}
+use Rattle.alf_boundary.specs.declared.clips.FoundClip.{FoundClip}
+use Rattle.alf_boundary.specs.declared.clips.FoundClip.the-variants.{At, Nowhere}
 
 -- the clip position and its cause, where there is one
-abbrev pub clipOf : Edge → Option Clip
+abbrev pub clipOf : FoundClip → Option Clip
 clipOf (At c) = some c
-clipOf Open = none
+clipOf Nowhere = none
 
 -- the position alone
-abbrev pub positionOf : Edge → Option ℕ
+abbrev pub positionOf : FoundClip → Option ℕ
 positionOf e = Option·map (λ c. c .position) (clipOf e)
 
 -- the side that a flag names

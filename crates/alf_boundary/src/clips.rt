@@ -1,5 +1,5 @@
-// The clip positions of a position along an axis of the picture, and their causes: the line-buffer boundary, a virtual boundary, or what closes the
-// side of its CTB.
+// The clip positions of a position along an axis of the picture, and their causes: the line-buffer boundary, a virtual boundary, or why filtering across
+// the side of its CTB is disabled.
 ghost use mathlib.Core.Path.{_≡_};
 ghost use mathlib.Core.Bool.{Bool};
 ghost use mathlib.Core.List.{List};
@@ -8,47 +8,47 @@ ghost use Rattle.alf_spec.specs.declared.ClipCause.{ClipCause};
 ghost use Rattle.alf_spec.specs.Geometry.{Side, before, after, Axis, lineRule};
 ghost use Rattle.alf_spec.specs.Boundary.{only, _orElse_, near, lineClip, virtualClip, sideClip, clip, causeOf};
 ghost use Rattle.alf_boundary.specs.Clips.{clipOf, sideOf, axisOf, Bounded};
-use crate::sides::is_closed;
+use crate::sides::disables;
 use alf_spec::Clip;
 use alf_spec::ClipCause;
 
 // What the rules find on one side of a position: a clip position with its cause, or none.
-pub enum Edge {
+pub enum FoundClip {
     At(Clip),
-    Open,
+    Nowhere,
 }
 
 // The clip position with its cause, where the test passes.
-fn only_if(test: bool, cause: ClipCause, at: u32) -> Edge
+fn only_if(test: bool, cause: ClipCause, at: u32) -> FoundClip
     ensures { λ r. ⌜ clipOf r ≡ only test cause at ⌝ }
 {
     if test {
-        Edge::At(Clip {
+        FoundClip::At(Clip {
             cause: cause,
             position: at,
         })
     } else {
-        Edge::Open
+        FoundClip::Nowhere
     }
 }
 
 // The first of two that is a clip position.
-fn or_else(first: Edge, second: Edge) -> Edge
+fn or_else(first: FoundClip, second: FoundClip) -> FoundClip
     ensures { λ r. ⌜ clipOf r ≡ (clipOf first orElse clipOf second) ⌝ }
 {
     match first {
-        Edge::At(clip) => Edge::At(clip),
-        Edge::Open => second,
+        FoundClip::At(clip) => FoundClip::At(clip),
+        FoundClip::Nowhere => second,
     }
 }
 
 // The cause.
-pub fn cause_of(edge: Edge) -> ClipCause
-    ensures { λ r. ⌜ r ≡ causeOf (clipOf edge) ⌝ }
+pub fn cause_of(found: FoundClip) -> ClipCause
+    ensures { λ r. ⌜ r ≡ causeOf (clipOf found) ⌝ }
 {
-    match edge {
-        Edge::At(clip) => clip.cause,
-        Edge::Open => ClipCause::Open,
+    match found {
+        FoundClip::At(clip) => clip.cause,
+        FoundClip::Nowhere => ClipCause::Open,
     }
 }
 
@@ -65,7 +65,7 @@ fn is_near(after: bool, x: u32, boundary: u32) -> bool
 }
 
 // The first virtual boundary that is near x on that side.
-pub fn virtual_clip(after: bool, boundaries: &[u16], x: u32) -> Edge
+pub fn virtual_clip(after: bool, boundaries: &[u16], x: u32) -> FoundClip
     requires { ⌜ x ≤ 65535 ⌝ }
     ensures { λ r. ⌜ ((size ctb : ℕ) (line : Bool) (ratio : ℕ)
         → clipOf r ≡ virtualClip (axisOf size ctb (now (boundaries .entry)) line ratio) x (sideOf after)) ⌝ }
@@ -74,14 +74,14 @@ pub fn virtual_clip(after: bool, boundaries: &[u16], x: u32) -> Edge
     while i < boundaries.len() {
         let boundary = boundaries[i] as u32;
         if is_near(after, x, boundary) {
-            return Edge::At(Clip {
+            return FoundClip::At(Clip {
                 cause: ClipCause::VirtualBoundary,
                 position: boundary,
             });
         }
         i += 1;
     }
-    Edge::Open
+    FoundClip::Nowhere
 }
 
 // Where the CTB of x begins.
@@ -101,7 +101,7 @@ pub fn line_rule(size: u32, ctb: u32, y: u32) -> bool
 }
 
 // The line-buffer boundary, 4 rows above the CTB's bottom, where x is at or below it.
-fn line_clip_before(ctb: u32, line: bool, x: u32) -> Edge
+fn line_clip_before(ctb: u32, line: bool, x: u32) -> FoundClip
     requires { ⌜ Bounded ctb x ⌝ }
     ensures { λ r. ⌜ ((size : ℕ) (boundaries : List ℕ) (ratio : ℕ) → clipOf r ≡ lineClip (axisOf size ctb boundaries line ratio) x before) ⌝ }
 {
@@ -114,7 +114,7 @@ fn line_clip_before(ctb: u32, line: bool, x: u32) -> Edge
 }
 
 // The same where x is 1 to 4 rows above it.
-fn line_clip_after(ctb: u32, line: bool, x: u32) -> Edge
+fn line_clip_after(ctb: u32, line: bool, x: u32) -> FoundClip
     requires { ⌜ Bounded ctb x ⌝ }
     ensures { λ r. ⌜ ((size : ℕ) (boundaries : List ℕ) (ratio : ℕ) → clipOf r ≡ lineClip (axisOf size ctb boundaries line ratio) x after) ⌝ }
 {
@@ -127,29 +127,29 @@ fn line_clip_after(ctb: u32, line: bool, x: u32) -> Edge
 }
 
 // The side of the CTB left of x or above it, where x is at most 2 from it and filtering across it is disabled.
-fn side_clip_before(ctb: u32, side: ClipCause, x: u32) -> Edge
+fn side_clip_before(ctb: u32, side: ClipCause, x: u32) -> FoundClip
     requires { ⌜ Bounded ctb x ⌝ }
     ensures { λ r. ⌜ ((size : ℕ) (boundaries : List ℕ) (line : Bool) (ratio : ℕ) (sides : Side → ClipCause) → sides before ≡ side
         → clipOf r ≡ sideClip (axisOf size ctb boundaries line ratio) x sides before) ⌝ }
 {
-    only_if((x % ctb < 3) & is_closed(side), side, ctb_start(ctb, x))
+    only_if((x % ctb < 3) & disables(side), side, ctb_start(ctb, x))
 }
 
 // The side right of x or below it, where x is at most 4 from it and filtering across it is disabled.
-fn side_clip_after(ctb: u32, side: ClipCause, x: u32) -> Edge
+fn side_clip_after(ctb: u32, side: ClipCause, x: u32) -> FoundClip
     requires { ⌜ Bounded ctb x ⌝ }
     ensures { λ r. ⌜ ((size : ℕ) (boundaries : List ℕ) (line : Bool) (ratio : ℕ) (sides : Side → ClipCause) → sides after ≡ side
         → clipOf r ≡ sideClip (axisOf size ctb boundaries line ratio) x sides after) ⌝ }
 {
     only_if(
-        (ctb - x % ctb < 5) & is_closed(side),
+        (ctb - x % ctb < 5) & disables(side),
         side,
         ctb_start(ctb, x) + ctb,
     )
 }
 
 // Left of x or above it: the line-buffer boundary, a virtual boundary, or the CTB's side.
-pub fn clip_before(ctb: u32, line: bool, boundaries: &[u16], side: ClipCause, x: u32) -> Edge
+pub fn clip_before(ctb: u32, line: bool, boundaries: &[u16], side: ClipCause, x: u32) -> FoundClip
     requires { ⌜ Bounded ctb x ⌝ }
     ensures { λ r. ⌜ ((size ratio : ℕ) (sides : Side → ClipCause) → sides before ≡ side
         → clipOf r ≡ clip (axisOf size ctb (now (boundaries .entry)) line ratio) x sides before) ⌝ }
@@ -161,7 +161,7 @@ pub fn clip_before(ctb: u32, line: bool, boundaries: &[u16], side: ClipCause, x:
 }
 
 // Right of x or below it: a virtual boundary, the line-buffer boundary, or the CTB's side.
-pub fn clip_after(ctb: u32, line: bool, boundaries: &[u16], side: ClipCause, x: u32) -> Edge
+pub fn clip_after(ctb: u32, line: bool, boundaries: &[u16], side: ClipCause, x: u32) -> FoundClip
     requires { ⌜ Bounded ctb x ⌝ }
     ensures { λ r. ⌜ ((size ratio : ℕ) (sides : Side → ClipCause) → sides after ≡ side
         → clipOf r ≡ clip (axisOf size ctb (now (boundaries .entry)) line ratio) x sides after) ⌝ }

@@ -1,4 +1,4 @@
-// The sides of a CTB, by what closes them, and its corners across which filtering is disabled.
+// The sides of a CTB, by why filtering across them is disabled, and its corners across which it is.
 ghost use mathlib.Core.Path.{_≡_};
 ghost use mathlib.Core.Bool.{true, not, _&&_, cond};
 ghost use mathlib.Core.List.{List};
@@ -7,7 +7,7 @@ ghost use lib.Dec.{eqb};
 ghost use lib.ListN.{length, getD};
 ghost use Rattle.alf_spec.specs.declared.ClipCause.the-variants.{Open};
 ghost use Rattle.alf_spec.specs.Input.{layoutOf};
-ghost use Rattle.alf_spec.specs.Boundary.{isClosed};
+ghost use Rattle.alf_spec.specs.Boundary.{disables};
 ghost use Rattle.alf_math.specs.Grids.{GridOf};
 ghost use Rattle.alf_boundary.specs.Tables.{TablesOf, SidesOf};
 ghost use Rattle.alf_boundary.specs.Memberships.{InTables, membershipAt, sliceStepDisabled, causeInto};
@@ -19,8 +19,8 @@ use alf_spec::Picture;
 use alf_spec::Sides;
 
 // Whether filtering across a side with this cause is disabled.
-pub fn is_closed(side: ClipCause) -> bool
-    ensures { λ r. ⌜ r ≡ isClosed side ⌝ }
+pub fn disables(side: ClipCause) -> bool
+    ensures { λ r. ⌜ r ≡ disables side ⌝ }
 {
     match side {
         ClipCause::Open => false,
@@ -129,7 +129,7 @@ fn step_cause(origin: Origin, into: Membership) -> ClipCause
     ClipCause::Open
 }
 
-// What closes the side toward a neighbour; where there is none, nothing is read.
+// Why filtering across the side toward a neighbour is disabled; where there is none, nothing is read.
 fn side_cause(
     origin: Origin,
     tile_columns: &[u8],
@@ -187,7 +187,7 @@ fn neighbour_at(there: bool, column: u32, row: u32) -> Neighbour
     }
 }
 
-// The sides of a CTB, by what closes them, and its corners across which filtering is disabled.
+// The sides of a CTB, by why filtering across them is disabled, and its corners across which it is.
 pub fn sides_of(
     picture: Picture,
     grid: Grid,

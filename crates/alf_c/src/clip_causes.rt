@@ -1,4 +1,4 @@
-// What closes the sides of a luma sample (02, card 1).
+// The causes at the four sides of a luma sample (02, card 1).
 ghost use mathlib.Core.Path.{_≡_};
 ghost use mathlib.Core.Bool.{cond};
 ghost use lib.Dec.{eqb};

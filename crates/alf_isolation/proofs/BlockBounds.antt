@@ -12,7 +12,7 @@ use Rattle.alf_spec.specs.declared.Ctb.{Ctb}
 use Rattle.alf_spec.specs.declared.Picture.{Picture}
 use Rattle.alf_spec.specs.declared.Sides.{Sides}
 use Rattle.alf_spec.specs.Lists.{allBelow}
-use Rattle.alf_spec.specs.Boundary.{isClosed}
+use Rattle.alf_spec.specs.Boundary.{disables}
 use Rattle.alf_spec.proofs.Tests.{both, neither}
 use Rattle.alf_isolation.specs.declared.steps.BlockSides.{BlockSides}
 use Rattle.alf_isolation.specs.Steps.{stepOpen, rowSides, blockSides, blocksAlong, blockTest, rowTest, ctbTest, BlocksOf, RowIn, BlockIn}
@@ -89,11 +89,11 @@ row-in {p} {ctb} {region} b list s y h e = rw e (record {
     room : (n : ℕ) → n ≤ p .height / 8 → n * (p .width / 8) ≤ length region
     room n k = rw (b .numbers, mul-comm (p .width / 8)) (mul-le-mul-right (p .width / 8) k)
 
-    above : not (stepOpen (p .height) ctb list (isClosed (s .top)) (8 * y)) ≡ false → 1 ≤ y
-    above t = omega (arith, open-within (p .height) ctb list (isClosed (s .top)) (8 * y) (not-false _ t))
+    above : not (stepOpen (p .height) ctb list (disables (s .top)) (8 * y)) ≡ false → 1 ≤ y
+    above t = omega (arith, open-within (p .height) ctb list (disables (s .top)) (8 * y) (not-false _ t))
 
-    below : not (stepOpen (p .height) ctb list (isClosed (s .bottom)) (8 * y + 8)) ≡ false → y + 2 ≤ p .height / 8
-    below t = omega (arith, open-within (p .height) ctb list (isClosed (s .bottom)) (8 * y + 8) (not-false _ t), b .height8)
+    below : not (stepOpen (p .height) ctb list (disables (s .bottom)) (8 * y + 8)) ≡ false → y + 2 ≤ p .height / 8
+    below t = omega (arith, open-within (p .height) ctb list (disables (s .bottom)) (8 * y + 8) (not-false _ t), b .height8)
 
 -- ---- the tests, as the code has them
 

@@ -12,7 +12,7 @@ use Rattle.alf_spec.specs.declared.Sides.{Sides}
 use Rattle.alf_spec.specs.Lists.{implies}
 use Rattle.alf_spec.specs.Input.{Layout}
 use Rattle.alf_spec.specs.Geometry.{Side, before, after, sameSide, next, ctbSize, planeOf, lumaPlane, blockPlane, ctbAt, ctbColumns, ctbRows}
-use Rattle.alf_spec.specs.Boundary.{isClosed, sliceOf, sliceDisables, stepCause, besideCtb, stackedCtb, columnSide, columnDisabled, rowSide, rowDisabled, cornerDisabled}
+use Rattle.alf_spec.specs.Boundary.{disables, sliceOf, sliceDisables, stepCause, besideCtb, stackedCtb, columnSide, columnDisabled, rowSide, rowDisabled, cornerDisabled}
 use Rattle.alf_spec.specs.Isolation.{openStep, columnStep, rowStep, diagonalStep}
 use Rattle.alf_spec.proofs.Tests.{both, all-same}
 use Rattle.alf_spec.proofs.Accepted.{Accepted}
@@ -33,7 +33,7 @@ unfolding sliceDisables
 own-slice l c = simp (eq-eqb (sliceOf l c) (sliceOf l c) refl)
 
 -- the CTB across a side is of the same slice, or the slice switch is on
-one-slice : (l : Layout) (c n : Ctb) → isClosed (stepCause l c n) ≡ false → sliceDisables l c n ≡ false
+one-slice : (l : Layout) (c n : Ctb) → disables (stepCause l c n) ≡ false → sliceDisables l c n ≡ false
 one-slice l c n e = not-disabled l c n e .1
 
 -- the slices count where the step crosses a CTB's corner: a side that is crossed is not disabled, and then not by slices

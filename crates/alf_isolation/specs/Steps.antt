@@ -12,7 +12,7 @@ use Rattle.alf_spec.specs.declared.Sides.{Sides}
 use Rattle.alf_spec.specs.Lists.{implies, allBelow, elem}
 use Rattle.alf_spec.specs.Input.{Layout}
 use Rattle.alf_spec.specs.Geometry.{ctbOf}
-use Rattle.alf_spec.specs.Boundary.{isClosed}
+use Rattle.alf_spec.specs.Boundary.{disables}
 use Rattle.alf_isolation.specs.declared.steps.BlockSides.{BlockSides}
 use Rattle.alf_isolation.specs.Blocks.{ctbPasses}
 
@@ -28,10 +28,10 @@ stepOpen size ctb boundaries disabled b =
 -- and last row.
 unfoldable pub rowSides : ℕ → ℕ → List ℕ → Sides → ℕ → BlockSides
 rowSides height ctb boundaries s y = record {
-  left = isClosed (s .left);
-  right = isClosed (s .right);
-  top = not (stepOpen height ctb boundaries (isClosed (s .top)) (8 * y));
-  bottom = not (stepOpen height ctb boundaries (isClosed (s .bottom)) (8 * y + 8));
+  left = disables (s .left);
+  right = disables (s .right);
+  top = not (stepOpen height ctb boundaries (disables (s .top)) (8 * y));
+  bottom = not (stepOpen height ctb boundaries (disables (s .bottom)) (8 * y + 8));
   «upper_left» = eqb ((8 * y) % ctb) 0 && s .«upper_left»;
   «lower_right» = eqb ((8 * y + 8) % ctb) 0 && s .«lower_right»;
 }

@@ -3,7 +3,7 @@
 ghost use mathlib.Core.Path.{_≡_};
 ghost use Prim.Native.Nat.{_≤_, _<_};
 ghost use Rattle.alf_isolation.specs.Steps.{stepOpen, rowSides, blockSides};
-use alf_boundary::sides::is_closed;
+use alf_boundary::sides::disables;
 use alf_boundary::virtual_boundaries::is_listed;
 use alf_spec::Sides;
 
@@ -37,10 +37,10 @@ pub fn row_sides(height: u32, ctb: u32, boundaries: &[u16], sides: Sides, y: u32
     let top = sides.top;
     let bottom = sides.bottom;
     BlockSides {
-        left: is_closed(left),
-        right: is_closed(right),
-        top: !step_is_open(height, ctb, boundaries, is_closed(top), above),
-        bottom: !step_is_open(height, ctb, boundaries, is_closed(bottom), below),
+        left: disables(left),
+        right: disables(right),
+        top: !step_is_open(height, ctb, boundaries, disables(top), above),
+        bottom: !step_is_open(height, ctb, boundaries, disables(bottom), below),
         upper_left: (above % ctb == 0) & sides.upper_left,
         lower_right: (below % ctb == 0) & sides.lower_right,
     }

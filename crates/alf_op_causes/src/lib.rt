@@ -1,4 +1,4 @@
-// What closes the sides of a luma sample (02, card 1).
+// The causes at the four sides of a luma sample (02, card 1).
 mod causes;
 
 ghost use mathlib.Core.Path.{_≡_};

@@ -8,11 +8,11 @@ use Rattle.alf_spec.specs.declared.ClipCause.{ClipCause}
 use Rattle.alf_spec.specs.Geometry.{Side, after, Axis}
 use Rattle.alf_spec.specs.Boundary.{clip, clipPosition}
 use Rattle.alf_spec.specs.Padding.{isNone}
-use Rattle.alf_boundary.specs.declared.clips.Edge.{Edge}
+use Rattle.alf_boundary.specs.declared.clips.FoundClip.{FoundClip}
 use Rattle.alf_boundary.specs.Clips.{clipOf, positionOf, axisOf}
 use Rattle.alf_pieces.specs.Pieces.{runEnd, pieceEnd}
 
--- for every plane, and whatever closes the side before
+-- for every plane, and whatever the side before is
 abbrev Each : ℕ → ℕ → Bool → List ℕ → ClipCause → (Axis → (Side → ClipCause) → Type 0) → Type 0
 Each size ctb line boundaries side P = (ratio : ℕ) (sides : Side → ClipCause) → sides after ≡ side → P (axisOf size ctb boundaries line ratio) sides
 
@@ -34,8 +34,8 @@ module _ {size ctb : ℕ} {line : Bool} {boundaries : List ℕ} {side : ClipCaus
       sym (s .rest ratio sides e ∙ rw none-left)
 
   -- a block, and what stands after its last sample
-  module _ (h : end + 4 ≤ min (q * ctb + ctb) size) (edge : Edge)
-      (found : Each size ctb line boundaries side (λ a sides. clipOf edge ≡ clip a (end + 3) sides after)) {t : Bool} (opens : t ≡ isNone (positionOf edge)) where
+  module _ (h : end + 4 ≤ min (q * ctb + ctb) size) (after-last : FoundClip)
+      (found : Each size ctb line boundaries side (λ a sides. clipOf after-last ≡ clip a (end + 3) sides after)) {t : Bool} (opens : t ≡ isNone (positionOf after-last)) where
     block : Each size ctb line boundaries side (λ a sides.
         pieceEnd a sides q x ≡ cond t (runEnd a sides ((min (q * ctb + ctb) size - (end + 4)) / 4) (end + 4)) (end + 4))
     unfolding runEnd clipPosition

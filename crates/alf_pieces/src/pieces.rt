@@ -10,7 +10,7 @@ ghost use Rattle.alf_spec.specs.Padding.{isNone, lowest as lowestOf, limit as l
 ghost use Rattle.alf_math.specs.Grids.{GridOf};
 ghost use Rattle.alf_boundary.specs.Clips.{axisOf, positionOf};
 ghost use Rattle.alf_pieces.specs.Pieces.{pieceEnd, pieceAt, scaled as scaledBy, either};
-use alf_boundary::clips::Edge;
+use alf_boundary::clips::FoundClip;
 use alf_boundary::clips::clip_after;
 use alf_boundary::clips::clip_before;
 use alf_math::grid::previous;
@@ -30,34 +30,34 @@ pub struct Piece {
 }
 
 // Whether there is no clip position.
-fn is_open(edge: Edge) -> bool
-    ensures { λ r. ⌜ r ≡ isNone (positionOf edge) ⌝ }
+fn is_open(found: FoundClip) -> bool
+    ensures { λ r. ⌜ r ≡ isNone (positionOf found) ⌝ }
 {
-    match edge {
-        Edge::At(_) => false,
-        Edge::Open => true,
+    match found {
+        FoundClip::At(_) => false,
+        FoundClip::Nowhere => true,
     }
 }
 
 // Where reads begin: the clip position before, in the plane's own samples, or 0.
-fn lowest(edge: Edge, ratio: u32) -> u32
+fn lowest(found: FoundClip, ratio: u32) -> u32
     requires { ⌜ 0 < ratio ⌝ }
-    ensures { λ r. ⌜ ((size ctb : ℕ) (boundaries : List ℕ) (line : Bool) → r ≡ lowestOf (axisOf size ctb boundaries line ratio) (positionOf edge)) ⌝ }
+    ensures { λ r. ⌜ ((size ctb : ℕ) (boundaries : List ℕ) (line : Bool) → r ≡ lowestOf (axisOf size ctb boundaries line ratio) (positionOf found)) ⌝ }
 {
-    match edge {
-        Edge::At(clip) => clip.position / ratio,
-        Edge::Open => 0,
+    match found {
+        FoundClip::At(clip) => clip.position / ratio,
+        FoundClip::Nowhere => 0,
     }
 }
 
 // Where reads end: the clip position after, in the plane's own samples, or the plane's end.
-fn limit(edge: Edge, size: u32, ratio: u32) -> u32
+fn limit(found: FoundClip, size: u32, ratio: u32) -> u32
     requires { ⌜ 0 < ratio ⌝ }
-    ensures { λ r. ⌜ ((ctb : ℕ) (boundaries : List ℕ) (line : Bool) → r ≡ limitOf (axisOf size ctb boundaries line ratio) (positionOf edge)) ⌝ }
+    ensures { λ r. ⌜ ((ctb : ℕ) (boundaries : List ℕ) (line : Bool) → r ≡ limitOf (axisOf size ctb boundaries line ratio) (positionOf found)) ⌝ }
 {
-    match edge {
-        Edge::At(clip) => clip.position / ratio,
-        Edge::Open => size / ratio,
+    match found {
+        FoundClip::At(clip) => clip.position / ratio,
+        FoundClip::Nowhere => size / ratio,
     }
 }
 
@@ -71,7 +71,7 @@ pub fn ctb_limit(size: u32, ctb: u32, q: u32) -> u32
 }
 
 // Where the piece ends that begins at the luma position x of the CTB at place q: with the first block of 4 samples whose last one has a clip position
-// after it. What closes a side is a multiple of 4, so no clip position stands within a block.
+// after it. Clip positions are multiples of 4, so none stands within a block.
 fn piece_end(
     size: u32,
     ctb: u32,

@@ -46,7 +46,7 @@ pub fn print_isolation(text: &[u8], number: u8, answer: Isolation) {
     }
 }
 
-// What closes a side.
+// A cause by its name.
 pub fn print_cause(cause: ClipCause) {
     match cause {
         ClipCause::Open => print(b"open"),

@@ -1,5 +1,5 @@
--- 02, card 1, worked out: what closes the sides of a sample beside each kind of border, which cause is named where several apply, and when a position
--- is refused. Assumes nothing.
+-- 02, card 1, worked out: the causes at a sample's sides beside each kind of border, which one is named where several apply, and when a position is
+-- rejected. Assumes nothing.
 use mathlib.Core.Path.{_≡_, refl}
 use mathlib.Core.Bool.{Bool, true, false}
 use mathlib.Core.List.{List, [], _∷_, map}
@@ -35,7 +35,7 @@ causes l x y = causeNumbers (causesAt l x y)
 pub record CauseExamples : Type 0 where
   -- the picture's rim is open
   pub rim : causes (quarters false false [] []) 0 0 ≡ 0 ∷ 0 ∷ 0 ∷ 0 ∷ []
-  -- tile, slice and subpicture all close the side right of (31, 0); the switches take one after the other away
+  -- tile, slice and subpicture all disable the side right of (31, 0); the switches take one after the other away
   pub order : map (λ l. causes l 31 0) (quarters false false [] [] ∷ quarters true false [] [] ∷ quarters true true [] [] ∷ [])
       ≡ (0 ∷ 0 ∷ 0 ∷ 3 ∷ []) ∷ (0 ∷ 0 ∷ 0 ∷ 4 ∷ []) ∷ (0 ∷ 0 ∷ 0 ∷ 5 ∷ []) ∷ []
   -- from the other side, this CTB's own subpicture switch counts, and it is on

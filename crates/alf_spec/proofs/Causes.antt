@@ -1,4 +1,4 @@
--- 02, card 1: a side is open exactly where there is no clip position, and a CTB's side is closed exactly where tiles, slices or subpictures disable
+-- 02, card 1: a side is open exactly where there is no clip position; and where a CTB's side is open, neither tiles nor slices nor subpictures disable
 -- filtering across it. Assumes nothing.
 use mathlib.Core.Path.{_≡_, refl}
 use mathlib.Core.Bool.{Bool, true, false, not, _&&_, cond, true≢false}
@@ -12,7 +12,7 @@ use Rattle.alf_spec.specs.declared.ClipCause.{ClipCause}
 use Rattle.alf_spec.specs.declared.ClipCause.the-variants.{Open, LineBufferBoundary, VirtualBoundary, Tile, Slice, Subpicture}
 use Rattle.alf_spec.specs.Input.{Layout}
 use Rattle.alf_spec.specs.Geometry.{Side, before, after, Axis, lumaPlane, inCtb}
-use Rattle.alf_spec.specs.Boundary.{isClosed, tileDisables, sliceDisables, subpicDisables, stepCause, only, _orElse_, find, near, linePosition, lineClip, virtualClip, sideClip, clip, clipPosition, causeOf}
+use Rattle.alf_spec.specs.Boundary.{disables, tileDisables, sliceDisables, subpicDisables, stepCause, only, _orElse_, find, near, linePosition, lineClip, virtualClip, sideClip, clip, clipPosition, causeOf}
 use Rattle.alf_spec.specs.Padding.{isNone, columnClip, rowClip}
 use Rattle.alf_spec.specs.Causes.{columnCause, rowCause}
 use Rattle.alf_spec.proofs.Tests.{both}
@@ -20,12 +20,12 @@ use Rattle.alf_spec.proofs.Tests.{both}
 -- ---- the side of a CTB
 
 -- an open side: none of the three disables filtering across it
-pub not-disabled : (l : Layout) (c n : Ctb) → isClosed (stepCause l c n) ≡ false
+pub not-disabled : (l : Layout) (c n : Ctb) → disables (stepCause l c n) ≡ false
     → (tileDisables l c n ≡ false) × (sliceDisables l c n ≡ false) × (subpicDisables l c n ≡ false)
 unfolding stepCause
 not-disabled l c n = by (tileDisables l c n) (sliceDisables l c n) (subpicDisables l c n)
   where
-    by : (t s p : Bool) → isClosed (cond t Tile (cond s Slice (cond p Subpicture Open))) ≡ false → (t ≡ false) × (s ≡ false) × (p ≡ false)
+    by : (t s p : Bool) → disables (cond t Tile (cond s Slice (cond p Subpicture Open))) ≡ false → (t ≡ false) × (s ≡ false) × (p ≡ false)
     by false false false h = (refl, refl, refl)
     by true s p h = absurd (true≢false h)
     by false true p h = absurd (true≢false h)
@@ -35,14 +35,14 @@ not-disabled l c n = by (tileDisables l c n) (sliceDisables l c n) (subpicDisabl
 
 -- what a rule finds has a cause
 data Named : Option Clip → Type 0 where
-  names : {c : Clip} → isClosed (c .cause) ≡ true → Named (some c)
+  names : {c : Clip} → disables (c .cause) ≡ true → Named (some c)
   opens : Named none
 
-closed-some : {o : Option Clip} → Named o → isClosed (causeOf o) ≡ not (isNone (Option·map (λ c. c .position) o))
-closed-some (names h) = h
-closed-some opens = refl
+named-some : {o : Option Clip} → Named o → disables (causeOf o) ≡ not (isNone (Option·map (λ c. c .position) o))
+named-some (names h) = h
+named-some opens = refl
 
-only-named : (t : Bool) (k : ClipCause) (e : ℕ) → (t ≡ true → isClosed k ≡ true) → Named (only t k e)
+only-named : (t : Bool) (k : ClipCause) (e : ℕ) → (t ≡ true → disables k ≡ true) → Named (only t k e)
 only-named true k e h = names (h refl)
 only-named false k e h = opens
 
@@ -67,8 +67,8 @@ module _ (a : Axis) (x : ℕ) (side : Side → ClipCause) where
 
   side-named : (d : Side) → Named (sideClip a x side d)
   unfolding sideClip
-  side-named before = only-named (ltb (inCtb a x) 3 && isClosed (side before)) (side before) _ (λ t. both (ltb (inCtb a x) 3) _ t .1)
-  side-named after = only-named (ltb (a .ctb - inCtb a x) 5 && isClosed (side after)) (side after) _ (λ t. both (ltb (a .ctb - inCtb a x) 5) _ t .1)
+  side-named before = only-named (ltb (inCtb a x) 3 && disables (side before)) (side before) _ (λ t. both (ltb (inCtb a x) 3) _ t .1)
+  side-named after = only-named (ltb (a .ctb - inCtb a x) 5 && disables (side after)) (side after) _ (λ t. both (ltb (a .ctb - inCtb a x) 5) _ t .1)
 
   clip-named : (d : Side) → Named (clip a x side d)
   unfolding clip
@@ -77,10 +77,10 @@ module _ (a : Axis) (x : ℕ) (side : Side → ClipCause) where
 
 -- the clip positions that every filter uses
 module _ (l : Layout) (x y : ℕ) (d : Side) where
-  pub column-named : isClosed (columnCause l x y d) ≡ not (isNone (columnClip l (lumaPlane l) x y d))
+  pub column-named : disables (columnCause l x y d) ≡ not (isNone (columnClip l (lumaPlane l) x y d))
   unfolding columnCause columnClip clipPosition
-  column-named = closed-some (clip-named _ _ _ d)
+  column-named = named-some (clip-named _ _ _ d)
 
-  pub row-named : isClosed (rowCause l x y d) ≡ not (isNone (rowClip l (lumaPlane l) x y d))
+  pub row-named : disables (rowCause l x y d) ≡ not (isNone (rowClip l (lumaPlane l) x y d))
   unfolding rowCause rowClip clipPosition
-  row-named = closed-some (clip-named _ _ _ d)
+  row-named = named-some (clip-named _ _ _ d)

@@ -15,14 +15,14 @@ use Rattle.alf_spec.specs.Geometry.{Side, before, after, next, hasNext, 
 
 -- ---- sides
 
--- (01: closed) the side has a cause: filtering across it is disabled
-abbrev pub isClosed : ClipCause → Bool
-isClosed Open = false
-isClosed LineBufferBoundary = true
-isClosed VirtualBoundary = true
-isClosed Tile = true
-isClosed Slice = true
-isClosed Subpicture = true
+-- (01: closed) filtering across a side with this cause is disabled
+abbrev pub disables : ClipCause → Bool
+disables Open = false
+disables LineBufferBoundary = true
+disables VirtualBoundary = true
+disables Tile = true
+disables Slice = true
+disables Subpicture = true
 
 module _ (l : Layout) (c : Ctb) where
   -- the slice of a CTB: 01, one byte per CTB
@@ -72,21 +72,21 @@ stackedCtb d c = record { column = c .column; row = next d (c .row) }
 abbrev pub diagonalCtb : Side → Ctb → Ctb
 diagonalCtb d c = record { column = next d (c .column); row = next d (c .row) }
 
--- what closes the left or right side of a CTB; at the picture's rim there is no CTB across
+-- why filtering across the left or right side of a CTB is disabled, or open; at the picture's rim there is no CTB across
 unfoldable pub columnSide : Layout → Ctb → Side → ClipCause
 columnSide l c d = cond (hasNext (ctbColumns l) d (c .column)) (stepCause l c (besideCtb d c)) Open
 
--- its top or bottom
+-- across its top or bottom
 unfoldable pub rowSide : Layout → Ctb → Side → ClipCause
 rowSide l c d = cond (hasNext (ctbRows l) d (c .row)) (stepCause l c (stackedCtb d c)) Open
 
 -- (01: closed) filtering across the left or right side of a CTB is disabled
 abbrev pub columnDisabled : Layout → Ctb → Side → Bool
-columnDisabled l c d = isClosed (columnSide l c d)
+columnDisabled l c d = disables (columnSide l c d)
 
 -- across its top or bottom
 abbrev pub rowDisabled : Layout → Ctb → Side → Bool
-rowDisabled l c d = isClosed (rowSide l c d)
+rowDisabled l c d = disables (rowSide l c d)
 
 -- across its upper left or lower right corner, by slices alone: clipTopLeftFlag, clipBotRightFlag
 unfoldable pub cornerDisabled : Layout → Ctb → Side → Bool
@@ -115,8 +115,8 @@ abbrev pub near : Side → ℕ → ℕ → Bool
 near before x v = leb v x && leb (x - v) 2
 near after x v = ltb x v && leb (v - x) 4
 
--- 01's rules at the position x along an axis, in its words for rows; left and right are the same without the line. `side d` says what closes side d
--- of x's CTB.
+-- 01's rules at the position x along an axis, in its words for rows; left and right are the same without the line. `side d` says why
+-- filtering across side d of x's CTB is disabled (01: that side is closed), or that it is open.
 module _ (a : Axis) (x : ℕ) where
   -- the line lies 4 luma rows above the CTB's bottom
   abbrev pub linePosition : ℕ
@@ -133,8 +133,8 @@ module _ (a : Axis) (x : ℕ) where
 
   -- the CTB top if y < 3 and that side is closed; the CTB bottom if S − y < 5 and that side is closed
   unfoldable pub sideClip : (Side → ClipCause) → Side → Option Clip
-  sideClip side before = only (ltb (inCtb a x) 3 && isClosed (side before)) (side before) (ctbStart a x)
-  sideClip side after = only (ltb (a .ctb - inCtb a x) 5 && isClosed (side after)) (side after) (ctbStart a x + a .ctb)
+  sideClip side before = only (ltb (inCtb a x) 3 && disables (side before)) (side before) (ctbStart a x)
+  sideClip side after = only (ltb (a .ctb - inCtb a x) 5 && disables (side after)) (side after) (ctbStart a x + a .ctb)
 
   -- (01: edge) the clip position with its cause, where there is one: "the first that 01 tests counts"
   unfoldable pub clip : (Side → ClipCause) → Side → Option Clip

@@ -1,4 +1,4 @@
-// What closes the sides of a few luma samples: two CTBs of 32 side by side, in two slices, with the slice switch off and a virtual column at 16.
+// The causes at the sides of a few luma samples: two CTBs of 32 side by side, in two slices, with the slice switch off and a virtual column at 16.
 use crate::show_fault;
 use alf::clip_causes;
 use alf_print::print;

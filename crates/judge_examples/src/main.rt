@@ -1,4 +1,4 @@
-// Runs paper 01's examples of judging and of the isolation test, an input for each number of its table, and what closes the sides of a few samples.
+// Runs paper 01's examples of judging and of the isolation test, an input for each number of its table, and the causes at the sides of a few samples.
 
 mod causes;
 mod damaged;
@@ -111,6 +111,6 @@ fn main() {
         b"the number answered where this cause alone is broken, and where all from it to 13 are\n",
     );
     damaged::show_all();
-    print(b"what closes a sample's top, bottom, left and right\n");
+    print(b"the causes at a sample's top, bottom, left and right\n");
     causes::show_causes();
 }

@@ -1,6 +1,6 @@
 // P9 to P11 on what the filters run: clip positions and their causes, the copy of a piece, and the line rule. CTBs are of 32.
 ghost use Prim.Native.Nat.{_≤_};
-use alf_boundary::clips::Edge;
+use alf_boundary::clips::FoundClip;
 use alf_boundary::clips::clip_after;
 use alf_boundary::clips::clip_before;
 use alf_boundary::clips::line_rule;
@@ -17,17 +17,17 @@ use alf_spec::ClipCause;
 use alf_spec::Ctb;
 use alf_spec::Picture;
 
-fn show_edge(y: u32, edge: Edge) {
+fn show_clip(y: u32, found: FoundClip) {
     print_number(y);
-    match edge {
-        Edge::At(clip) => {
+    match found {
+        FoundClip::At(clip) => {
             print(b" -> ");
             print_number(clip.position);
             print(b", ");
             let cause = clip.cause;
             print_cause(cause);
         }
-        Edge::Open => print(b" -> none"),
+        FoundClip::Nowhere => print(b" -> none"),
     }
 }
 
@@ -38,7 +38,7 @@ pub fn show_below(y: u32)
     let boundaries = [0u16; 1];
     let none = 0;
     print(b"  below ");
-    show_edge(
+    show_clip(
         y,
         clip_after(32, true, &boundaries[..none], ClipCause::Open, y),
     );
@@ -51,7 +51,7 @@ pub fn show_above(y: u32)
     let boundaries = [0u16; 1];
     let none = 0;
     print(b"  above ");
-    show_edge(
+    show_clip(
         y,
         clip_before(32, true, &boundaries[..none], ClipCause::Open, y),
     );

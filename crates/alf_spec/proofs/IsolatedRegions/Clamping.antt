@@ -8,7 +8,7 @@ use Prim.Native.Nat.{ℕ, _+_, _/_, _%_, _≤_, _<_}
 use native.Mathlib.Omega.{arith}
 use Rattle.alf_spec.specs.declared.ClipCause.{ClipCause}
 use Rattle.alf_spec.specs.Geometry.{Side, before, after, Axis, samples, lumaPosition}
-use Rattle.alf_spec.specs.Boundary.{isClosed, clipPosition}
+use Rattle.alf_spec.specs.Boundary.{disables, clipPosition}
 use Rattle.alf_spec.specs.Padding.{lowest, limit, clamped, pastCtb}
 use Rattle.alf_spec.proofs.Axes.{not-gt, Regular}
 use Rattle.alf_spec.proofs.IsolatedRegions.Ratios.{Ratio, own-le, le-own, own-lt, lt-own, Toward, toward-luma}
@@ -103,7 +103,7 @@ module _ (a : Axis) (ok : Regular a) (ratio : Ratio (a .ratio)) (side : Side →
     leaving : X / a .ctb ≢ U / a .ctb → Near d X (bound a d X) × (clip d ≡ none) × Free a X side d
     leaving ne = crossing (bound a d X) (bound4 a ok X d) (leaves a ok d X U toward ne)
 
-    pub guarded : Guarded a (λ d. isClosed (side d)) d X U
+    pub guarded : Guarded a (λ d. disables (side d)) d X U
     guarded = record {
       inPicture = lt-own (a .ratio) (a .size) u (kept .2);
       toward = toward;

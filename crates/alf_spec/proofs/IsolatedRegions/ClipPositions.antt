@@ -14,7 +14,7 @@ use Rattle.alf_spec.specs.declared.Clip.{Clip}
 use Rattle.alf_spec.specs.declared.ClipCause.{ClipCause}
 use Rattle.alf_spec.specs.declared.ClipCause.the-variants.{LineBufferBoundary, VirtualBoundary}
 use Rattle.alf_spec.specs.Geometry.{Side, before, after, Axis, ctbStart, inCtb}
-use Rattle.alf_spec.specs.Boundary.{isClosed, only, _orElse_, find, near, linePosition, lineClip, virtualClip, sideClip, clip, clipPosition}
+use Rattle.alf_spec.specs.Boundary.{disables, only, _orElse_, find, near, linePosition, lineClip, virtualClip, sideClip, clip, clipPosition}
 use Rattle.alf_spec.proofs.Tests.{both, and-no}
 use Rattle.alf_spec.proofs.Axes.{Regular, lower, upper, parts}
 
@@ -118,13 +118,13 @@ sideLimit after = 5
 
 -- no virtual boundary is near on that side, and if the CTB's side is, it is not side
 abbrev pub Free : Axis → ℕ → (Side → ClipCause) → Side → Type 0
-Free a x side d = ((b : ℕ) → List·Memᴰ b (a .virtualBoundaries) → ¬ Near d x b) × (Near d x (bound a d x) → isClosed (side d) ≡ false)
+Free a x side d = ((b : ℕ) → List·Memᴰ b (a .virtualBoundaries) → ¬ Near d x b) × (Near d x (bound a d x) → disables (side d) ≡ false)
 
 -- the rule that finds the clip position e of x on that side: the line-buffer boundary, a virtual boundary, or the CTB's side where it is side
 pub data Rule (a : Axis) (x : ℕ) (side : Side → ClipCause) (d : Side) (e : ℕ) : Type 0 where
   line-rule : a .hasLine ≡ true → e ≡ linePosition a x → Rule a x side d e
   virtual-rule : List·Memᴰ e (a .virtualBoundaries) → Rule a x side d e
-  side-rule : e ≡ bound a d x → isClosed (side d) ≡ true → Rule a x side d e
+  side-rule : e ≡ bound a d x → disables (side d) ≡ true → Rule a x side d e
 
 pub record Found (a : Axis) (x : ℕ) (side : Side → ClipCause) (d : Side) (e : ℕ) : Type 0 where
   pub first : First d x e
@@ -182,15 +182,15 @@ module _ (a : Axis) (ok : Regular a) (x : ℕ) where
         record { first = near-first d x v (omega arith) (near-yes d x v q); rule = virtual-rule m }))
 
     tested-side : (d : Side) (n : ℕ) → n ≤ sideLimit d → sideLimit d ≤ n
-        → ClipEnds (Found a x side d) (Near d x (bound a d x) → isClosed (side d) ≡ false) (only (sideTest a d x n && isClosed (side d)) (side d) (bound a d x))
+        → ClipEnds (Found a x side d) (Near d x (bound a d x) → disables (side d) ≡ false) (only (sideTest a d x n && disables (side d)) (side d) (bound a d x))
     tested-side d n h k =
-        only-ends (sideTest a d x n && isClosed (side d)) (side d) (bound a d x)
+        only-ends (sideTest a d x n && disables (side d)) (side d) (bound a d x)
         (λ q.
-        let t = both (sideTest a d x n) (isClosed (side d)) q in
+        let t = both (sideTest a d x n) (disables (side d)) q in
         record { first = near-first d x (bound a d x) (bound4 d) (side-near d n h (t .0)); rule = side-rule refl (t .1) })
-        (λ q near. and-no (sideTest a d x n) (isClosed (side d)) q (near-side d n k near))
+        (λ q near. and-no (sideTest a d x n) (disables (side d)) q (near-side d n k near))
 
-    found-side : (d : Side) → ClipEnds (Found a x side d) (Near d x (bound a d x) → isClosed (side d) ≡ false) (sideClip a x side d)
+    found-side : (d : Side) → ClipEnds (Found a x side d) (Near d x (bound a d x) → disables (side d) ≡ false) (sideClip a x side d)
     unfolding sideClip
     found-side before = tested-side before _ (omega arith) (omega arith)
     found-side after = tested-side after _ (omega arith) (omega arith)

@@ -11,7 +11,7 @@ use borrow.Author.Tests.{ne-eqb, not-true}
 use Rattle.alf_spec.specs.declared.Ctb.{Ctb}
 use Rattle.alf_spec.specs.Input.{Layout}
 use Rattle.alf_spec.specs.Geometry.{Side, sameSide, next, gap, hasNext, Axis, planeOf, lumaPlane, blockPlane, lumaPosition, ctbCount, ctbAt, ctbColumns, ctbRows}
-use Rattle.alf_spec.specs.Boundary.{isClosed, sliceDisables, stepCause, besideCtb, stackedCtb, columnSide, columnDisabled, rowSide, rowDisabled}
+use Rattle.alf_spec.specs.Boundary.{disables, sliceDisables, stepCause, besideCtb, stackedCtb, columnSide, columnDisabled, rowSide, rowDisabled}
 use Rattle.alf_spec.specs.Isolation.{openStep, columnStep, rowStep, diagonalStep, inside, staysInside, isolated, regionOf}
 use Rattle.alf_spec.proofs.Tests.{both, imply, at-all}
 use Rattle.alf_spec.proofs.Lists.{tabulate-at}
@@ -78,7 +78,7 @@ cornerCtb d e c = record { column = next d (c .column); row = next e (c .row) }
 -- the CTBs that pass the test are not left over a side that is not disabled and, where the CTBs beside and above or below also pass, not over
 -- the corner between those two
 pub record Kept (l : Layout) (P : Ctb → Bool) : Type 0 where
-  pub side : (c n : Ctb) → isClosed (stepCause l c n) ≡ false → P c ≡ true → P n ≡ true
+  pub side : (c n : Ctb) → disables (stepCause l c n) ≡ false → P c ≡ true → P n ≡ true
   pub corner : (d e : Side) (c : Ctb) → hasNext (ctbColumns l) d (c .column) ≡ true → hasNext (ctbRows l) e (c .row) ≡ true
       → (sameSide d e && sliceDisables l c (cornerCtb d e c)) ≡ false
       → P c ≡ true → P (besideCtb d c) ≡ true → P (stackedCtb e c) ≡ true → P (cornerCtb d e c) ≡ true

@@ -19,4 +19,4 @@ side-clip-after-spec =
     (λ c. omega (arith, c .ctb-start .ensures, div-mul-le-self (c .before .before .args .x) (c .before .before .args .ctb)))
     (λ c κs. search needs)
     (λ c size boundaries line ratio sides e.
-    rw (e, ← c .before .before .is-closed .ensures, ← c .before .ctb-start .ensures) (c .only-if .ensures)))
+    rw (e, ← c .before .before .disables .ensures, ← c .before .ctb-start .ensures) (c .only-if .ensures)))

@@ -14,4 +14,4 @@ side-clip-before-spec =
     (λ c κs. search needs)
     (λ c κs. search needs)
     (λ c size boundaries line ratio sides e.
-    rw (e, ← c .before .before .is-closed .ensures, ← c .before .ctb-start .ensures) (c .only-if .ensures)))
+    rw (e, ← c .before .before .disables .ensures, ← c .before .ctb-start .ensures) (c .only-if .ensures)))

@@ -25,9 +25,9 @@ row-sides-spec =
     let right = top .before .before in
     rw (
       bottom .step-is-open2 .ensures,
-      bottom .before .is-closed4 .ensures,
+      bottom .before .disables4 .ensures,
       top .step-is-open .ensures,
-      top .before .is-closed3 .ensures,
-      right .is-closed2 .ensures,
-      right .before .is-closed .ensures,
+      top .before .disables3 .ensures,
+      right .disables2 .ensures,
+      right .before .disables .ensures,
     )))

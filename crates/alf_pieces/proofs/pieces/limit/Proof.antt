@@ -11,5 +11,5 @@ limit-spec =
     (λ c. search needs)
     (λ c. search needs)
     (λ c. search needs)
-    (λ c ctb boundaries line. rw (c .before .before .edge .given .1))
+    (λ c ctb boundaries line. rw (c .before .before .found .given .1))
     (λ c ctb boundaries line. rw (c .enum-told .given .1)))

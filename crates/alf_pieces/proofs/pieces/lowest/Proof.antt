@@ -10,5 +10,5 @@ lowest-spec =
     (λ c. search needs)
     (λ c. search needs)
     (λ c. search needs)
-    (λ c size ctb boundaries line. rw (c .before .before .edge .given .1))
+    (λ c size ctb boundaries line. rw (c .before .before .found .given .1))
     (λ c size ctb boundaries line. rw (c .enum-told .given .1)))
