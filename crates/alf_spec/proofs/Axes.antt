@@ -1,7 +1,7 @@
 -- One axis of an accepted picture: its size, CTBs and virtual boundaries are multiples of 8; and the CTB of a position on it. Assumes nothing.
 use mathlib.Core.Path.{_≡_, sym}
 use mathlib.Core.Logic.{_≢_, by-cases}
-use mathlib.Core.Bool.{Bool, true, false}
+use mathlib.Core.Bool.{true}
 use mathlib.Core.List.{List, List·Memᴰ}
 use Prim.Native.Nat.{ℕ, suc, _+_, _-_, _*_, _/_, _%_, _^_, _≤_, _<_}
 use native.Mathlib.Nat.{div-mul-le-self, lt-div-mul-add, div-eq-of-lt-le, div-add-mod'}
@@ -77,9 +77,9 @@ ctb-sizes p q =
         (λ n6. let e : n ≡ 7 = omega arith in rw e (omega arith)))
 
 -- an axis of a picture
-pub regular : (p : Picture) → ctbSizeValid p ≡ true → (size : ℕ) (list : List ℕ) (line : Bool) (ratio : ℕ)
+pub regular : (p : Picture) → ctbSizeValid p ≡ true → (size : ℕ) (list : List ℕ) (line ratio : ℕ)
     → sizeValid size ≡ true → virtualListValid size (ctbSize p) list ≡ true
-    → Regular (record { size = size; ctb = ctbSize p; virtualBoundaries = list; hasLine = line; ratio = ratio })
+    → Regular (record { size = size; ctb = ctbSize p; virtualBoundaries = list; line = line; ratio = ratio })
 regular p c size list line ratio s v = record {
   big = ctb-sizes p c .0;
   ctb8 = ctb-sizes p c .1;
@@ -87,15 +87,15 @@ regular p c size list line ratio s v = record {
   virtual8 = virtual-of size (ctbSize p) list v;
 }
 
-module _ (l : Layout) (ok : Accepted l) (columnRatio rowRatio : ℕ) where
-  pub regular-columns : Regular (planeOf l columnRatio rowRatio .columns)
+module _ (l : Layout) (ok : Accepted l) (columnRatio rowRatio line : ℕ) where
+  pub regular-columns : Regular (planeOf l columnRatio rowRatio line .columns)
   unfolding planeOf
   regular-columns =
-      regular (l .picture) (ok .ctbSize) (l .picture .width) (l .virtualColumns) false columnRatio
+      regular (l .picture) (ok .ctbSize) (l .picture .width) (l .virtualColumns) 0 columnRatio
       (sizes-valid (l .picture) (ok .sizes) .0) (lists-valid l (ok .virtualBoundaries) .0)
 
-  pub regular-rows : Regular (planeOf l columnRatio rowRatio .rows)
+  pub regular-rows : Regular (planeOf l columnRatio rowRatio line .rows)
   unfolding planeOf
   regular-rows =
-      regular (l .picture) (ok .ctbSize) (l .picture .height) (l .virtualRows) true rowRatio
+      regular (l .picture) (ok .ctbSize) (l .picture .height) (l .virtualRows) line rowRatio
       (sizes-valid (l .picture) (ok .sizes) .1) (lists-valid l (ok .virtualBoundaries) .1)

@@ -11,7 +11,7 @@ use Rattle.alf_spec.specs.declared.Clip.{Clip}
 use Rattle.alf_spec.specs.declared.ClipCause.{ClipCause}
 use Rattle.alf_spec.specs.declared.ClipCause.the-variants.{Open, LineBufferBoundary, VirtualBoundary, Tile, Slice, Subpicture}
 use Rattle.alf_spec.specs.Input.{Layout}
-use Rattle.alf_spec.specs.Geometry.{Side, before, after, Axis, lumaPlane, inCtb}
+use Rattle.alf_spec.specs.Geometry.{Side, before, after, Axis, hasLine, lumaPlane, inCtb}
 use Rattle.alf_spec.specs.Boundary.{disables, tileDisables, sliceDisables, subpicDisables, stepCause, only, _orElse_, find, near, linePosition, lineClip, virtualClip, sideClip, clip, clipPosition, causeOf}
 use Rattle.alf_spec.specs.Padding.{isNone, columnClip, rowClip}
 use Rattle.alf_spec.specs.Causes.{columnCause, rowCause}
@@ -58,8 +58,8 @@ find-named test (v ∷ vs) = or-named (only-named (test v) VirtualBoundary v (λ
 module _ (a : Axis) (x : ℕ) (side : Side → ClipCause) where
   line-named : (d : Side) → Named (lineClip a x d)
   unfolding lineClip
-  line-named before = only-named (a .hasLine && leb (a .ctb - 4) (inCtb a x)) LineBufferBoundary _ (λ _. refl)
-  line-named after = only-named (a .hasLine && near after x (linePosition a x)) LineBufferBoundary _ (λ _. refl)
+  line-named before = only-named (hasLine a && leb (a .ctb - a .line) (inCtb a x)) LineBufferBoundary _ (λ _. refl)
+  line-named after = only-named (hasLine a && near after x (linePosition a x)) LineBufferBoundary _ (λ _. refl)
 
   virtual-named : (d : Side) → Named (virtualClip a x d)
   unfolding virtualClip

@@ -7,6 +7,7 @@ pub mod Causes
 pub mod Examples
 pub mod Faults
 pub mod IsolatedRegions
+pub mod LineCrossing
 pub mod Lists
 pub mod Planes
 pub mod Rejections

@@ -6,7 +6,7 @@ use Prim.Native.Nat.{ℕ, _+_}
 use lib.IntN.{ℤ, pos, negsuc}
 use lib.ListN.{replicate, getD, set}
 use Rattle.alf_spec.specs.declared.Picture.{Picture}
-use Rattle.alf_spec.specs.Input.{Layout, classes, luma, chroma, crossComponent, Input}
+use Rattle.alf_spec.specs.Input.{Layout, classes, luma, chroma, crossComponent, Input, chromaInput}
 use Rattle.alf_spec.specs.Lists.{allBelow, everyFrom}
 use Rattle.alf_spec.specs.Geometry.{ctbSize, subWidth, subHeight, planeOf}
 use Rattle.alf_spec.specs.Boundary.{sliceOf}
@@ -56,6 +56,10 @@ onLayout l = smallInput l (zeros 22) (zeros 32) flat (zeros 1600) [] 1600
 abbrev onTables : List ℕ → List ℕ → List ℤ → List ℕ → List ℕ → Input
 onTables sliceParams ctbParams bank plane list = smallInput (plain good) sliceParams ctbParams bank plane list 1600
 
+-- a chroma filter's, in a chroma format, with so many chroma samples
+abbrev inFormat : ℕ → ℕ → Input
+inFormat format n = chromaInput (plain (sized 40 5 8 format 2)) (zeros 22) flat (zeros 32) [] (zeros n) n
+
 -- a layout with all but one of its tables in order
 abbrev ofColumns : List ℕ → Layout
 ofColumns columns = mapped good columns (0 ∷ 0 ∷ []) (zeros 4) (zeros 4) (replicate 64 1)
@@ -88,10 +92,14 @@ pub record Rejections : Type 0 where
   pub r2 : fault luma (onLayout (plain (sized 40 8 8 1 2))) ≡ 2
   pub depths : map (λ b. bitDepthValid (sized 40 5 b 1 2)) (7 ∷ 8 ∷ 12 ∷ 13 ∷ []) ≡ false ∷ true ∷ true ∷ false ∷ []
   pub r3 : fault luma (onLayout (plain (sized 40 5 13 1 2))) ≡ 3
-  pub r4 : fault luma (onLayout (plain (sized 40 5 8 2 2))) ∷ fault (chroma 0) (onLayout (plain (sized 40 5 8 0 2))) ∷ fault (crossComponent 2) (onLayout (plain good)) ∷ []
+  pub formats : map (λ k. chromaFormatValid (sized 40 5 8 k 2)) (0 ∷ 1 ∷ 2 ∷ 3 ∷ 4 ∷ []) ≡ true ∷ true ∷ true ∷ true ∷ false ∷ []
+  pub r4 : fault luma (onLayout (plain (sized 40 5 8 4 2))) ∷ fault (chroma 0) (onLayout (plain (sized 40 5 8 0 2))) ∷ fault (crossComponent 2) (onLayout (plain good)) ∷ []
       ≡ 4 ∷ 4 ∷ 4 ∷ []
   pub counts : map (λ n. layoutLengthsValid (plain (sized 40 5 8 1 n))) (0 ∷ 1 ∷ 256 ∷ 257 ∷ []) ≡ false ∷ true ∷ true ∷ false ∷ []
   pub r5 : map (λ n. fault luma (onLayout (plain (sized 40 5 8 1 n)))) (257 ∷ 3 ∷ []) ≡ 5 ∷ 5 ∷ []
+  -- a chroma plane is as long as its format says: 20 by 20 samples in 4:2:0, 20 by 40 in 4:2:2, 40 by 40 in 4:4:4
+  pub chroma-lengths : map (λ k. map (λ n. lengthsValid (chroma 0) (inFormat k n)) (400 ∷ 800 ∷ 1600 ∷ [])) (1 ∷ 2 ∷ 3 ∷ [])
+      ≡ (true ∷ false ∷ false ∷ []) ∷ (false ∷ true ∷ false ∷ []) ∷ (false ∷ false ∷ true ∷ []) ∷ []
   pub r5-output : fault luma (smallInput (plain good) (zeros 22) (zeros 32) flat (zeros 1600) [] 1599) ≡ 5
   pub columns : map (λ v. virtualBoundariesValid (ofColumns v)) ((8 ∷ []) ∷ (32 ∷ []) ∷ (4 ∷ []) ∷ (40 ∷ []) ∷ (8 ∷ 32 ∷ []) ∷ [])
       ≡ true ∷ true ∷ false ∷ false ∷ false ∷ []
@@ -134,9 +142,11 @@ rejections = record {
   r2 = refl;
   depths = refl;
   r3 = refl;
+  formats = refl;
   r4 = refl;
   counts = refl;
   r5 = refl;
+  chroma-lengths = refl;
   r5-output = refl;
   columns = refl;
   r6 = refl;

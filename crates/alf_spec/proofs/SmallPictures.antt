@@ -23,7 +23,7 @@ use Rattle.alf_spec.specs.Process.{classAt, classMap, lumaOn, isFiltered
 use Rattle.alf_spec.proofs.Examples.{picture, layout}
 use Rattle.alf_spec.proofs.WorkedExamples.{grid, input}
 
--- ---- one CTB of 32 by 32 in 4:2:0, depth 10, with a texture
+-- ---- one CTB of 32 by 32, depth 10, with a texture
 
 abbrev countFrom : ℕ → ℕ → List ℕ
 countFrom k zero = []
@@ -36,19 +36,29 @@ texture width n = map (λ k. 300 + (k % width * 53 + k / width * 11 + k % width 
 abbrev clipPlace : ℕ → Bool
 clipPlace n = (ltb n 600 && leb 12 (n % 24)) || (leb 600 n && (ltb n 696 && leb 6 (n % 12)))
 
-abbrev pub ctb32 : Input
-ctb32 = record {
-  layout = layout (picture 32 32 5 10 1 1) [] (0 ∷ []) (0 ∷ []) (0 ∷ []) (0 ∷ []) (replicate 64 1);
+-- in a chroma format, with so many columns and rows of chroma
+abbrev ctb32 : ℕ → ℕ → ℕ → Input
+ctb32 format columns rows = record {
+  layout = layout (picture 32 32 5 10 format 1) [] (0 ∷ []) (0 ∷ []) (0 ∷ []) (0 ∷ []) (replicate 64 1);
   luma = texture 32 1024;
-  chroma = texture 16 256;
+  chroma = texture columns (columns * rows);
   sliceParams = 2 ∷ 6 ∷ 1 ∷ 0 ∷ 0 ∷ 0 ∷ 0 ∷ 0 ∷ 4 ∷ 2 ∷ 7 ∷ [];
   bank = map (λ k. cond (clipPlace (k % 752)) (pos (5 * k % 401)) (pos (k * 7 % 41) -ℤ pos 20)) (countFrom 0 6016);
   ctbParams = 1 ∷ 1 ∷ 1 ∷ 17 ∷ 3 ∷ 5 ∷ 2 ∷ 4 ∷ [];
   ctbList = 0 ∷ [];
   fixedFilters = replicate 768 (pos 0);
   fixedMap = replicate 400 0;
-  outputLength = 256;
+  outputLength = columns * rows;
 }
+
+abbrev pub ctb420 : Input
+ctb420 = ctb32 1 16 16
+
+abbrev pub ctb422 : Input
+ctb422 = ctb32 2 16 32
+
+abbrev pub ctb444 : Input
+ctb444 = ctb32 3 32 32
 
 -- ---- two CTBs side by side, 64 by 8 luma samples, with luma flags and a list
 
@@ -74,11 +84,15 @@ pub record SmallPictures : Type 0 where
   -- the classes of P12's picture
   pub class-map : result classes (input 16 3) ≡ 17 ∷ 96 ∷ 17 ∷ 84 ∷ []
   -- of the texture: the classes of three blocks, one above the other, at column 8 and rows 20, 24 and 28
-  pub line-classes : map (classAt (ctb32 .layout) (ctb32 .luma)) (42 ∷ 50 ∷ 58 ∷ []) ≡ 67 ∷ 100 ∷ 35 ∷ []
-  -- luma at column 9, rows 23 to 31; chroma and cross-component at column 3, rows 10 to 15
-  pub line-luma : map (lumaSample ctb32 9) (countFrom 23 9) ≡ 394 ∷ 369 ∷ 346 ∷ 357 ∷ 308 ∷ 380 ∷ 380 ∷ 327 ∷ 303 ∷ []
-  pub line-chroma : map (chromaSample ctb32 0 3) (countFrom 10 6) ≡ 288 ∷ 334 ∷ 397 ∷ 303 ∷ 335 ∷ 376 ∷ []
-  pub line-cross : map (crossSample ctb32 1 3) (countFrom 10 6) ≡ 306 ∷ 327 ∷ 368 ∷ 300 ∷ 344 ∷ 379 ∷ []
+  pub line-classes : map (classAt (ctb420 .layout) (ctb420 .luma)) (42 ∷ 50 ∷ 58 ∷ []) ≡ 67 ∷ 100 ∷ 35 ∷ []
+  -- luma at column 9, rows 23 to 31; chroma and cross-component at column 3, rows 10 to 15, or 24 to 31 where chroma has full height
+  pub line-luma : map (lumaSample ctb420 9) (countFrom 23 9) ≡ 394 ∷ 369 ∷ 346 ∷ 357 ∷ 308 ∷ 380 ∷ 380 ∷ 327 ∷ 303 ∷ []
+  pub line-chroma : map (chromaSample ctb420 0 3) (countFrom 10 6) ≡ 288 ∷ 334 ∷ 397 ∷ 303 ∷ 335 ∷ 376 ∷ []
+  pub line-cross : map (crossSample ctb420 1 3) (countFrom 10 6) ≡ 306 ∷ 327 ∷ 368 ∷ 300 ∷ 344 ∷ 379 ∷ []
+  pub line-chroma-422 : map (chromaSample ctb422 0 3) (countFrom 24 8) ≡ 391 ∷ 293 ∷ 325 ∷ 397 ∷ 299 ∷ 342 ∷ 374 ∷ 299 ∷ []
+  pub line-cross-422 : map (crossSample ctb422 1 3) (countFrom 24 8) ≡ 372 ∷ 309 ∷ 336 ∷ 368 ∷ 317 ∷ 342 ∷ 384 ∷ 301 ∷ []
+  pub line-chroma-444 : map (chromaSample ctb444 0 3) (countFrom 24 8) ≡ 391 ∷ 293 ∷ 325 ∷ 397 ∷ 299 ∷ 342 ∷ 374 ∷ 299 ∷ []
+  pub line-cross-444 : map (crossSample ctb444 1 3) (countFrom 24 8) ≡ 367 ∷ 325 ∷ 332 ∷ 379 ∷ 306 ∷ 343 ∷ 371 ∷ 320 ∷ []
   -- what is filtered: listed CTBs whose flag is on, whatever their order and repeats
   pub listed : map (λ list. filteredAt (twoCtbs 1 1 list)) ([] ∷ (1 ∷ []) ∷ (0 ∷ 1 ∷ []) ∷ (1 ∷ 1 ∷ 0 ∷ []) ∷ [])
       ≡ replicate 4 false ∷ (false ∷ true ∷ false ∷ true ∷ []) ∷ replicate 4 true ∷ replicate 4 true ∷ []
@@ -92,6 +106,10 @@ small-pictures = record {
   line-luma = refl;
   line-chroma = refl;
   line-cross = refl;
+  line-chroma-422 = refl;
+  line-cross-422 = refl;
+  line-chroma-444 = refl;
+  line-cross-444 = refl;
   listed = refl;
   flag-off = refl;
 }

@@ -19,7 +19,7 @@ use Rattle.alf_spec.specs.Isolation.{isolated, outputInside}
 use Rattle.alf_spec.proofs.Lists.{tabulate-at, tabulate-length, painted-length}
 use Rattle.alf_spec.proofs.Accepted.{accepted, component-of, luma-length, chroma-length}
 use Rattle.alf_spec.proofs.IsolatedRegions.Inside.{Inside, SameInside, luma-ctb, luma-inside}
-use Rattle.alf_spec.proofs.IsolatedRegions.Ratios.{whole, chroma-ratios}
+use Rattle.alf_spec.proofs.IsolatedRegions.Ratios.{whole, chroma-ratios, luma-line, chroma-line}
 use Rattle.alf_spec.proofs.IsolatedRegions.Reach.{SameReads}
 use Rattle.alf_spec.proofs.IsolatedRegions.Reads.{same-reads}
 use Rattle.alf_spec.proofs.IsolatedRegions.Samples.{same-class, atLayout, SameFilters, same-luma, same-chroma, same-cross}
@@ -62,23 +62,23 @@ module _ (op : Operation) (region : List ℕ) (i j : Input) (runs : TwoRuns op r
   other = atLayout l j
 
   -- the filters of a CTB with a sample of a plane inside
-  same-filters : given op .filters ≡ true → (columnRatio rowRatio x y : ℕ) → Inside l region (planeOf l columnRatio rowRatio) x y
-      → SameFilters i other (ctbAt (planeOf l columnRatio rowRatio) x y)
-  same-filters e columnRatio rowRatio x y s =
-      let t = luma-inside l columnRatio rowRatio region x y s in
-      subst (SameFilters i other) (luma-ctb l columnRatio rowRatio x y)
+  same-filters : given op .filters ≡ true → (columnRatio rowRatio line x y : ℕ) → Inside l region (planeOf l columnRatio rowRatio line) x y
+      → SameFilters i other (ctbAt (planeOf l columnRatio rowRatio line) x y)
+  same-filters e columnRatio rowRatio line x y s =
+      let t = luma-inside l columnRatio rowRatio line region x y s in
+      subst (SameFilters i other) (luma-ctb l columnRatio rowRatio line x y)
       (record { sliceParams = runs .sliceParams e; bank = runs .bank e; ctbParams = runs .ctbParams e _ _ t; listed = runs .listed e _ _ t })
 
   luma-output : given op .filters ≡ true → given op .luma ≡ true → SameOutput l region (lumaPlane l) i other (λ a. a .luma)
   luma-output e f =
       same-output l region (lumaPlane l) i other (λ a. a .luma)
-      (luma-length op i (runs .firstAccepted) f) (luma-length op other (runs .secondAccepted) f) (runs .luma f) (same-filters e 1 1)
+      (luma-length op i (runs .firstAccepted) f) (luma-length op other (runs .secondAccepted) f) (runs .luma f) (same-filters e 1 1 4)
 
   chroma-output : given op .filters ≡ true → given op .chroma ≡ true → SameOutput l region (chromaPlane l) i other (λ a. a .chroma)
   chroma-output e f =
       same-output l region (chromaPlane l) i other (λ a. a .chroma)
       (chroma-length op i (runs .firstAccepted) f) (chroma-length op other (runs .secondAccepted) f) (runs .chroma f)
-      (same-filters e (subWidth (l .picture)) (subHeight (l .picture)))
+      (same-filters e (subWidth (l .picture)) (subHeight (l .picture)) (2 * subHeight (l .picture)))
 
 -- equal reads give equal results
 from-reads : (op : Operation) (region : List ℕ) (i j : Input) → TwoRuns op region i (atLayout (i .layout) j)
@@ -91,7 +91,7 @@ from-reads classes region i j runs lumaReads chromaReads = λ k h q.
     let l = i .layout in
     let x = columnOf (classPlane l) k in
     let y = rowOf (classPlane l) k in
-    let s = luma-inside l 4 4 region x y (index-inside l region (classPlane l) k h q) in
+    let s = luma-inside l 4 4 4 region x y (index-inside l region (classPlane l) k h q) in
     tabulate-at _ (classAt l (i .luma)) k h
     ∙ ap classNumber (same-class l region (i .luma) (j .luma) (lumaReads refl) (x * 4) (y * 4) (omega arith) (omega arith) s)
     ∙ sym (tabulate-at _ (classAt l (j .luma)) k h)
@@ -118,8 +118,8 @@ isolation op region i j runs k h q =
     let reads = same-reads (i .layout) (accepted op i (runs .firstAccepted) .0) region (runs .regionIsolated) in
     let ratios = chroma-ratios (i .layout .picture) in
     subst (λ l. TwoRuns op region i (atLayout l j) → getD (result op i) k 0 ≡ getD (result op (atLayout l j)) k 0) (runs .layout)
-    (λ r. from-reads op region i j r (λ e. reads 1 1 whole whole (i .luma) (j .luma) (runs .luma e))
-    (λ e. reads _ _ (ratios .0) (ratios .1) (i .chroma) (j .chroma) (runs .chroma e)) k h q) runs
+    (λ r. from-reads op region i j r (λ e. reads 1 1 4 whole whole luma-line (i .luma) (j .luma) (runs .luma e))
+    (λ e. reads _ _ _ (ratios .0) (ratios .1) (chroma-line (ratios .1)) (i .chroma) (j .chroma) (runs .chroma e)) k h q) runs
 
 -- and every place of the output is one of the result
 pub result-length : (op : Operation) (i : Input) → fault op i ≡ 0 → length (result op i) ≡ planeLength (outputPlane op (i .layout))

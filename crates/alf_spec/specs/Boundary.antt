@@ -11,7 +11,7 @@ use Rattle.alf_spec.specs.declared.Clip.{Clip}
 use Rattle.alf_spec.specs.declared.ClipCause.{ClipCause}
 use Rattle.alf_spec.specs.declared.ClipCause.the-variants.{Open, LineBufferBoundary, VirtualBoundary, Tile, Slice, Subpicture}
 use Rattle.alf_spec.specs.Input.{Layout}
-use Rattle.alf_spec.specs.Geometry.{Side, before, after, next, hasNext, Axis, ctbStart, inCtb, ctbColumns, ctbRows, address}
+use Rattle.alf_spec.specs.Geometry.{Side, before, after, next, hasNext, Axis, hasLine, ctbStart, inCtb, ctbColumns, ctbRows, address}
 
 -- ---- sides
 
@@ -118,14 +118,14 @@ near after x v = ltb x v && leb (v - x) 4
 -- 01's rules at the position x along an axis, in its words for rows; left and right are the same without the line. `side d` says why
 -- filtering across side d of x's CTB is disabled (01: that side is closed), or that it is open.
 module _ (a : Axis) (x : ℕ) where
-  -- the line lies 4 luma rows above the CTB's bottom
+  -- yCtb + CtbSizeY − 2 * scaleHeight: the line lies 4 luma rows above the CTB's bottom, or 2 chroma rows (02, card 4)
   abbrev pub linePosition : ℕ
-  linePosition = ctbStart a x + (a .ctb - 4)
+  linePosition = ctbStart a x + (a .ctb - a .line)
 
-  -- the line if y ≥ S − 4; the line if it is 1 to 4 below
+  -- the line if y − ( CtbSizeY − 2 * scaleHeight ) ≥ 0; the line if it is 1 to 4 luma rows below
   unfoldable pub lineClip : Side → Option Clip
-  lineClip before = only (a .hasLine && leb (a .ctb - 4) (inCtb a x)) LineBufferBoundary linePosition
-  lineClip after = only (a .hasLine && (ltb x linePosition && leb (linePosition - x) 4)) LineBufferBoundary linePosition
+  lineClip before = only (hasLine a && leb (a .ctb - a .line) (inCtb a x)) LineBufferBoundary linePosition
+  lineClip after = only (hasLine a && (ltb x linePosition && leb (linePosition - x) 4)) LineBufferBoundary linePosition
 
   -- (1511) to (1514): a virtual row 0 to 2 rows above or at the sample; a virtual row 1 to 4 below
   unfoldable pub virtualClip : Side → Option Clip

@@ -33,9 +33,9 @@ ctbSizeValid p = within 5 7 (p .«ctb_log2»)
 unfoldable pub bitDepthValid : Picture → Bool
 bitDepthValid p = within 8 12 (p .«bit_depth»)
 
--- 4: chroma mark 0 or 1
+-- 4: chroma mark 0 to 3
 unfoldable pub chromaFormatValid : Picture → Bool
-chromaFormatValid p = leb (p .«chroma_format») 1
+chromaFormatValid p = leb (p .«chroma_format») 3
 
 -- 4: no chroma work under mark 0, and component 0 (Cb) or 1 (Cr)
 unfoldable pub componentValid : Operation → Picture → Bool

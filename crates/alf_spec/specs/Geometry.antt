@@ -1,10 +1,11 @@
 -- The CTB grid, planes and their lengths, and where a sample lies. Assumes nothing.
-use mathlib.Core.Bool.{Bool, true, false, _&&_}
+use mathlib.Core.Bool.{Bool, true, false, _&&_, cond}
 use mathlib.Core.List.{List}
 use Prim.Native.Nat.{ℕ, suc, pred, _+_, _-_, _*_, _/_, _%_, _^_}
-use lib.Dec.{leb, ltb}
+use lib.Dec.{eqb, leb, ltb}
 use Rattle.alf_spec.specs.declared.Picture.{Picture}
 use Rattle.alf_spec.specs.declared.Ctb.{Ctb}
+use Rattle.alf_spec.specs.Lists.{within}
 use Rattle.alf_spec.specs.Input.{Layout}
 
 -- Both axes follow one rule: before is left or above, after is right or below.
@@ -38,10 +39,14 @@ pub record Axis : Type 0 where
   pub size : ℕ
   pub ctb : ℕ
   pub virtualBoundaries : List ℕ
-  -- rows have a line-buffer boundary (01: the line) in each CTB, columns have none
-  pub hasLine : Bool
+  -- how far above a CTB's bottom its line-buffer boundary (01: the line) lies; 0 where there is none, as along columns
+  pub line : ℕ
   -- luma samples to one of the plane's own: 1, or SubWidthC or SubHeightC
   pub ratio : ℕ
+
+-- the axis has a line-buffer boundary in each CTB
+abbrev pub hasLine : Axis → Bool
+hasLine a = ltb 0 (a .line)
 
 -- a plane by its two axes: columns run left to right, rows top to bottom
 pub record Plane : Type 0 where
@@ -52,42 +57,47 @@ pub record Plane : Type 0 where
 unfoldable pub ctbSize : Picture → ℕ
 ctbSize p = 2 ^ p .«ctb_log2»
 
--- SubWidthC. 4:2:0 is the one format with chroma here.
+-- SubWidthC: 2 in 4:2:0 and 4:2:2 (chroma marks 1 and 2), else 1
 unfoldable pub subWidth : Picture → ℕ
-subWidth p = 2
+subWidth p = cond (within 1 2 (p .«chroma_format»)) 2 1
 
--- SubHeightC
+-- SubHeightC: 2 in 4:2:0, else 1
 unfoldable pub subHeight : Picture → ℕ
-subHeight p = 2
+subHeight p = cond (eqb (p .«chroma_format») 1) 2 1
 
--- the picture's axes, for a plane with these ratios to luma
-unfoldable pub planeOf : Layout → ℕ → ℕ → Plane
-planeOf l columnRatio rowRatio = record {
-  columns = record { size = l .picture .width; ctb = ctbSize (l .picture); virtualBoundaries = l .virtualColumns; hasLine = false; ratio = columnRatio };
-  rows = record { size = l .picture .height; ctb = ctbSize (l .picture); virtualBoundaries = l .virtualRows; hasLine = true; ratio = rowRatio };
+-- 8.8.5.5: the line lies 2 * scaleHeight luma rows above a CTB's bottom
+abbrev pub lineRows : ℕ → ℕ
+lineRows scaleHeight = 2 * scaleHeight
+
+-- the picture's axes, for a plane with these ratios to luma, and with the line so many luma rows above a CTB's bottom
+unfoldable pub planeOf : Layout → ℕ → ℕ → ℕ → Plane
+planeOf l columnRatio rowRatio line = record {
+  columns = record { size = l .picture .width; ctb = ctbSize (l .picture); virtualBoundaries = l .virtualColumns; line = 0; ratio = columnRatio };
+  rows = record { size = l .picture .height; ctb = ctbSize (l .picture); virtualBoundaries = l .virtualRows; line = line; ratio = rowRatio };
 }
 
--- the luma plane: ratio 1
+-- the luma plane: ratio 1. For it, for classes and for what the cross-component filter reads scaleHeight is 2 (8.8.5.2, 8.8.5.3, 8.8.5.7), so that the
+-- line lies 4 rows up.
 abbrev pub lumaPlane : Layout → Plane
-lumaPlane l = planeOf l 1 1
+lumaPlane l = planeOf l 1 1 (lineRows 2)
 
--- 01: chroma planes half in each direction
+-- 02, card 4: a chroma plane has its own ratio in each direction. For it scaleHeight is SubHeightC (8.8.5.4), so that the line lies 2 chroma rows up.
 abbrev pub chromaPlane : Layout → Plane
-chromaPlane l = planeOf l (subWidth (l .picture)) (subHeight (l .picture))
+chromaPlane l = planeOf l (subWidth (l .picture)) (subHeight (l .picture)) (lineRows (subHeight (l .picture)))
 
 -- a class map has an entry for each 4 by 4 luma block (01: class plane)
 abbrev pub classPlane : Layout → Plane
-classPlane l = planeOf l 4 4
+classPlane l = planeOf l 4 4 (lineRows 2)
 
 -- a region has an entry for each 8 by 8 luma block (01: area)
 abbrev pub blockPlane : Layout → Plane
-blockPlane l = planeOf l 8 8
+blockPlane l = planeOf l 8 8 (lineRows 2)
 
 -- the plane's own samples along an axis: (1515), (1516)
 abbrev pub samples : Axis → ℕ
 samples a = a .size / a .ratio
 
--- 01: a chroma sample lies where twice its place lies
+-- 02, card 4: chroma places multiply by their own ratio in each direction (01: twice, which is 4:2:0)
 abbrev pub lumaPosition : Axis → ℕ → ℕ
 lumaPosition a x = x * a .ratio
 

@@ -8,7 +8,7 @@ pub struct Picture {
     pub ctb_log2: u8,
     // BitDepth (01: B)
     pub bit_depth: u8,
-    // ChromaArrayType (01: chroma mark): 0 luma alone, 1 4:2:0
+    // ChromaArrayType (01: chroma mark): 0 luma alone, 1 4:2:0, 2 4:2:2, 3 4:4:4
     pub chroma_format: u8,
     // how many slices have parameters (01: N)
     pub slice_count: u32,

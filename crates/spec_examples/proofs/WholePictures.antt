@@ -1,7 +1,7 @@
 -- Pictures that are accepted and filtered whole, worked out by the definitions. The samples were found by a separate model of H.266 and paper 01 that
 -- goes sample by sample. Assumes nothing.
 use mathlib.Core.Path.{_≡_, refl}
-use mathlib.Core.List.{[], _∷_, _++_}
+use mathlib.Core.List.{[], _∷_, _++_, map}
 use lib.ListN.{replicate}
 use Rattle.alf_spec.specs.Input.{luma, chroma, crossComponent}
 use Rattle.alf_spec.specs.Lists.{allBelow, everyFrom, elem, sumBelow, sumBelowℤ, tabulate, painted}
@@ -15,13 +15,13 @@ use Rattle.alf_spec.specs.Luma.{lumaF, lumaC, tapOrder, lumaRows, lumaPlus, lum
 use Rattle.alf_spec.specs.Process.{lumaOn, isFiltered, atIndex, filteredPlane, result}
 use Rattle.alf_spec.specs.Faults.{pictureSizeValid, ctbSizeValid, bitDepthValid, chromaFormatValid, componentValid, layoutLengthsValid, filterLengthsValid, fixedLengthsValid, lengthsValid, apartAt, virtualListValid, virtualBoundariesValid, followsAt, tileListValid, tilesValid, cornerAt, cornersInRow, cornersValid, slicesValid, subpicturesValid, sliceParamsValid, ctbRangesValid, ctbChromaZero, ctbParamsValidAt, parametersValid, coeffValid, clipValid, isClip, bankNumberValid, bankValid, fixedValid, samplesValid, addressesValid, unless, layoutFault, tablesFault, fault}
 use Rattle.alf_spec.proofs.WorkedExamples.{input}
-use Rattle.alf_spec.proofs.SmallPictures.{ctb32}
+use Rattle.alf_spec.proofs.SmallPictures.{ctb420, ctb422, ctb444}
 
 -- the pictures whose samples `WorkedExamples` and `SmallPictures` work out are accepted
 pub record AcceptedPictures : Type 0 where
   pub p12 : fault luma (input 16 3) ≡ 0
-  pub texture-chroma : fault (chroma 0) ctb32 ≡ 0
-  pub texture-cross : fault (crossComponent 1) ctb32 ≡ 0
+  pub texture-chroma : map (fault (chroma 0)) (ctb420 ∷ ctb422 ∷ ctb444 ∷ []) ≡ replicate 3 0
+  pub texture-cross : map (fault (crossComponent 1)) (ctb420 ∷ ctb422 ∷ ctb444 ∷ []) ≡ replicate 3 0
 
 pub accepted-pictures : AcceptedPictures
 unfolding allBelow everyFrom ctbSize subWidth subHeight planeOf sliceOf ctbParam sliceParam pictureSizeValid ctbSizeValid bitDepthValid chromaFormatValid componentValid layoutLengthsValid filterLengthsValid fixedLengthsValid lengthsValid apartAt virtualListValid virtualBoundariesValid followsAt tileListValid tilesValid cornerAt cornersInRow cornersValid slicesValid subpicturesValid sliceParamsValid ctbRangesValid ctbChromaZero ctbParamsValidAt parametersValid coeffValid clipValid isClip bankNumberValid bankValid fixedValid samplesValid addressesValid unless layoutFault tablesFault fault

@@ -3,11 +3,12 @@
 use mathlib.Core.Path.{_≡_, refl}
 use mathlib.Core.Bool.{true, false}
 use mathlib.Core.List.{List, [], _∷_, map}
+use mathlib.Core.Option.{Option, some, none}
 use Prim.Native.Nat.{ℕ}
 use lib.ListN.{replicate, getD}
-use Rattle.alf_spec.specs.Input.{Layout, classes}
+use Rattle.alf_spec.specs.Input.{Layout, layoutOf, classes}
 use Rattle.alf_spec.specs.Lists.{allBelow, everyFrom, elem, tabulate}
-use Rattle.alf_spec.specs.Geometry.{ctbSize, planeOf, lumaPlane}
+use Rattle.alf_spec.specs.Geometry.{Side, before, after, ctbSize, subWidth, subHeight, planeOf, lumaPlane, chromaPlane}
 use Rattle.alf_spec.specs.Boundary.{sliceOf, subpicOf, tileColumnOf, tileRowOf, tileDisables, sliceDisables, subpicDisables, stepCause, columnSide, rowSide, cornerDisabled, find, lineClip, virtualClip, sideClip, clip, clipPosition}
 use Rattle.alf_spec.specs.Padding.{columnClip, rowClip, pastCorner, paddedColumn, paddedRow, read}
 use Rattle.alf_spec.specs.Classes.{classWindow}
@@ -48,6 +49,10 @@ stackedTiles =
       «across_slices» = true;
     }) [] (0 ∷ []) (0 ∷ 1 ∷ []) (0 ∷ 0 ∷ []) (0 ∷ 0 ∷ []) (replicate 64 1)
 
+-- two CTBs one below the other in a chroma format, with virtual rows
+abbrev formatted : ℕ → List ℕ → Layout
+formatted format rows = layoutOf (picture 32 64 5 8 format 1) [] rows (0 ∷ []) (0 ∷ 0 ∷ []) (0 ∷ 0 ∷ []) (0 ∷ 0 ∷ []) (replicate 64 1)
+
 -- ---- what is computed
 
 -- the column that is read for the luma sample at column x, row 0, and its neighbour at column p
@@ -57,6 +62,10 @@ column l x p = paddedColumn l (lumaPlane l) x 0 p 0
 -- the column that stands at place k of the class window of the block at column 8, beside a virtual boundary there: each sample of row 0 is its column
 abbrev windowColumn : ℕ → ℕ
 windowColumn k = getD (classWindow (twoBlocks (8 ∷ [])) (0 ∷ 1 ∷ 2 ∷ 3 ∷ 4 ∷ 5 ∷ 6 ∷ 7 ∷ 8 ∷ 9 ∷ 10 ∷ 11 ∷ 12 ∷ 13 ∷ 14 ∷ 15 ∷ []) 8 0) k 0
+
+-- the clip position above or below row y of chroma
+abbrev chromaClip : Layout → ℕ → Side → Option ℕ
+chromaClip l y d = rowClip l (chromaPlane l) 0 y d
 
 -- the slice map is rejected, or not; the subpicture map
 abbrev slices : List ℕ → ℕ
@@ -76,6 +85,13 @@ pub record Borders : Type 0 where
   pub side-after : column closed 28 34 ≡ 31
   -- the CTB down-right is of another slice: (32, 32), a neighbour of (31, 31), becomes (31, 32)
   pub lower-right : paddedColumn cornered (lumaPlane cornered) 31 31 32 32 ∷ paddedRow cornered (lumaPlane cornered) 31 31 32 32 ∷ [] ≡ 31 ∷ 32 ∷ []
+  -- the line lies 2 chroma rows above the CTB's bottom: at 28 in 4:2:0, where chroma row 14 lies, and at 30 in 4:2:2
+  pub line-420 : chromaClip (formatted 1 []) 11 after ∷ chromaClip (formatted 1 []) 12 after ∷ chromaClip (formatted 1 []) 13 before ∷ chromaClip (formatted 1 []) 14 before ∷ []
+      ≡ none ∷ some 28 ∷ none ∷ some 28 ∷ []
+  pub line-422 : chromaClip (formatted 2 []) 25 after ∷ chromaClip (formatted 2 []) 26 after ∷ chromaClip (formatted 2 []) 29 before ∷ chromaClip (formatted 2 []) 30 before ∷ []
+      ≡ none ∷ some 30 ∷ none ∷ some 30 ∷ []
+  -- below, a virtual boundary comes before the line: that at 32 is found from row 28 on, though the line at 30 is nearer
+  pub virtual-first : map (λ y. chromaClip (formatted 3 (32 ∷ [])) y after) (27 ∷ 28 ∷ 29 ∷ 30 ∷ []) ≡ some 30 ∷ some 32 ∷ some 32 ∷ some 32 ∷ []
   -- b or c different is forbidden for slices; any one different for subpictures
   pub slice-maps : map slices ((1 ∷ 0 ∷ 0 ∷ 0 ∷ []) ∷ (0 ∷ 1 ∷ 0 ∷ 0 ∷ []) ∷ (0 ∷ 0 ∷ 1 ∷ 0 ∷ []) ∷ (0 ∷ 0 ∷ 0 ∷ 1 ∷ []) ∷ []) ≡ 0 ∷ 8 ∷ 8 ∷ 0 ∷ []
   pub subpic-maps : map subpics ((1 ∷ 0 ∷ 0 ∷ 0 ∷ []) ∷ (0 ∷ 1 ∷ 0 ∷ 0 ∷ []) ∷ (0 ∷ 0 ∷ 1 ∷ 0 ∷ []) ∷ (0 ∷ 0 ∷ 0 ∷ 1 ∷ []) ∷ []) ≡ 9 ∷ 9 ∷ 9 ∷ 9 ∷ []
@@ -88,7 +104,7 @@ pub record Borders : Type 0 where
   pub classes-inside : map (outputInside classes twoSubpictures (subpicRegion twoSubpictures 0)) (7 ∷ 8 ∷ []) ≡ true ∷ false ∷ []
 
 pub borders : Borders
-unfolding allBelow everyFrom elem tabulate ctbSize planeOf sliceOf subpicOf tileColumnOf tileRowOf tileDisables sliceDisables subpicDisables stepCause columnSide rowSide cornerDisabled find lineClip virtualClip sideClip clip clipPosition columnClip rowClip pastCorner paddedColumn paddedRow read classWindow openStep columnStep rowStep diagonalStep inside staysInside isolated regionOf sliceRegion tileRegion subpicRegion outputInside pictureSizeValid ctbSizeValid bitDepthValid chromaFormatValid layoutLengthsValid virtualListValid virtualBoundariesValid followsAt tileListValid tilesValid cornerAt cornersInRow cornersValid slicesValid subpicturesValid regionLengthValid regionValid unless layoutFault isolationFault
+unfolding allBelow everyFrom elem tabulate ctbSize subWidth subHeight planeOf sliceOf subpicOf tileColumnOf tileRowOf tileDisables sliceDisables subpicDisables stepCause columnSide rowSide cornerDisabled find lineClip virtualClip sideClip clip clipPosition columnClip rowClip pastCorner paddedColumn paddedRow read classWindow openStep columnStep rowStep diagonalStep inside staysInside isolated regionOf sliceRegion tileRegion subpicRegion outputInside pictureSizeValid ctbSizeValid bitDepthValid chromaFormatValid layoutLengthsValid virtualListValid virtualBoundariesValid followsAt tileListValid tilesValid cornerAt cornersInRow cornersValid slicesValid subpicturesValid regionLengthValid regionValid unless layoutFault isolationFault
 borders = record {
   virtual-before = refl;
   virtual-after = refl;
@@ -96,6 +112,9 @@ borders = record {
   side-before = refl;
   side-after = refl;
   lower-right = refl;
+  line-420 = refl;
+  line-422 = refl;
+  virtual-first = refl;
   slice-maps = refl;
   subpic-maps = refl;
   slice-around = refl;

@@ -11,9 +11,9 @@ use Rattle.alf_spec.specs.Geometry.{Side, before, after, Axis, samples, 
 use Rattle.alf_spec.specs.Boundary.{disables, clipPosition}
 use Rattle.alf_spec.specs.Padding.{lowest, limit, clamped, pastCtb}
 use Rattle.alf_spec.proofs.Axes.{not-gt, Regular}
-use Rattle.alf_spec.proofs.IsolatedRegions.Ratios.{Ratio, own-le, le-own, own-lt, lt-own, Toward, toward-luma}
+use Rattle.alf_spec.proofs.IsolatedRegions.Ratios.{Ratio, LineFits, own-le, le-own, own-lt, lt-own, Toward, toward-luma}
 use Rattle.alf_spec.proofs.IsolatedRegions.Reach.{Reach}
-use Rattle.alf_spec.proofs.IsolatedRegions.ClipPositions.{Ends, stops, runs, Near, First, bound, bound4, Free, clip-ends}
+use Rattle.alf_spec.proofs.IsolatedRegions.ClipPositions.{Ends, stops, runs, Near, Stop, bound, bound8, Free, clip-ends}
 use Rattle.alf_spec.proofs.IsolatedRegions.PastCtb.{Between, leaves, past}
 use Rattle.alf_spec.proofs.IsolatedRegions.Ways.{Guarded}
 
@@ -21,20 +21,20 @@ clear-of : (d : Side) (x b u : ℕ) → Toward d x u → ¬ Between d x b u → 
 clear-of before x b u t f = (λ h. not-gt (λ l. f (h, l)), λ h. omega arith)
 clear-of after x b u t f = (λ h. omega arith, λ h. not-gt (λ l. f (l, h)))
 
--- the first multiple of 4 is passed by nothing that stays before it, nor is any other
-stopped : (d : Side) (x u e b : ℕ) → First d x e → b % 4 ≡ 0 → ¬ Between d x e u → ¬ Between d x b u
+-- a clip position stops what would cross a multiple of 8
+stopped : (d : Side) (x u e b : ℕ) → Stop d x e → b % 8 ≡ 0 → ¬ Between d x e u → ¬ Between d x b u
 stopped before x u e b f q s h = s (omega arith)
 stopped after x u e b f q s h = s (omega arith)
 
-near-of : (d : Side) (x u p m : ℕ) → Reach x p → Toward d u p → m % 4 ≡ 0 → Between d x m u → Near d x m
-near-of before x u p m r t q h = (h .0, r .before m q (omega arith) (h .0))
-near-of after x u p m r t q h = (h .0, r .after m q (h .0) (omega arith))
+near-of : (d : Side) (x u p m : ℕ) → Reach x p → Toward d u p → m % 8 ≡ 0 → Between d x m u → Near d x m
+near-of before x u p m r t q h = (h .0, r .before m (omega arith) (omega arith) (h .0))
+near-of after x u p m r t q h = (h .0, r .after m (omega arith) (h .0) (omega arith))
 
 at-most-7 : (d : Side) (x u p : ℕ) → Toward d x u → Toward d u p → Reach x p → (x ≤ u + 7) × (u ≤ x + 7)
 at-most-7 before x u p t s r = omega (arith, r .low)
 at-most-7 after x u p t s r = omega (arith, r .high)
 
-module _ (a : Axis) (ok : Regular a) (ratio : Ratio (a .ratio)) (side : Side → ClipCause) (x p : ℕ) (inX : x < samples a) where
+module _ (a : Axis) (ok : Regular a) (ratio : Ratio (a .ratio)) (fits : LineFits (a .line)) (side : Side → ClipCause) (x p : ℕ) (inX : x < samples a) where
   abbrev X : ℕ
   X = lumaPosition a x
 
@@ -51,19 +51,19 @@ module _ (a : Axis) (ok : Regular a) (ratio : Ratio (a .ratio)) (side : Side →
   abbrev U : ℕ
   U = lumaPosition a u
 
-  lowest-le : {N : Type 0} (o : Option ℕ) → Ends (First before X) N o → lowest a o ≤ x
+  lowest-le : {N : Type 0} (o : Option ℕ) → Ends (Stop before X) N o → lowest a o ≤ x
   lowest-le _ (stops f) = own-le (a .ratio) _ x (f .1)
   lowest-le _ (runs n) = omega arith
 
-  lt-limit : {N : Type 0} (o : Option ℕ) → Ends (First after X) N o → x < limit a o
+  lt-limit : {N : Type 0} (o : Option ℕ) → Ends (Stop after X) N o → x < limit a o
   lt-limit _ (stops f) = own-lt (a .ratio) ratio _ x (f .0) (f .1)
   lt-limit _ (runs n) = inX
 
   low : lowest a (clip before) ≤ x
-  low = lowest-le (clip before) (clip-ends a ok X side before)
+  low = lowest-le (clip before) (clip-ends a ok X fits side before)
 
   high : x < limit a (clip after)
-  high = lt-limit (clip after) (clip-ends a ok X side after)
+  high = lt-limit (clip after) (clip-ends a ok X fits side after)
 
   -- clamping keeps to the plane and to the clip positions
   kept : (lowest a (clip before) ≤ u) × (u < limit a (clip after)) × (u < samples a)
@@ -74,7 +74,7 @@ module _ (a : Axis) (ok : Regular a) (ratio : Ratio (a .ratio)) (side : Side →
   drawn before t = omega (arith, low, high)
   drawn after t = omega (arith, low, high)
 
-  not-passed : (d : Side) (e : ℕ) → First d X e → clip d ≡ some e → ¬ Between d X e U
+  not-passed : (d : Side) (e : ℕ) → Stop d X e → clip d ≡ some e → ¬ Between d X e U
   not-passed before e f q h =
       let l : e / a .ratio ≤ u = rw (← (ap (lowest a) q)) (kept .0) in
       let z = le-own (a .ratio) ratio e u (f .0) l in
@@ -85,9 +85,9 @@ module _ (a : Axis) (ok : Regular a) (ratio : Ratio (a .ratio)) (side : Side →
       omega arith
 
   module _ (d : Side) (t : Toward d x p) (r : Reach X P) where
-    -- a multiple of 4 that is crossed is near, and there is no clip position
-    pass : (o : Option ℕ) → clip d ≡ o → Ends (First d X) (Free a X side d) o
-        → (b : ℕ) → b % 4 ≡ 0 → Between d X b U → Near d X b × (clip d ≡ none) × Free a X side d
+    -- a multiple of 8 that is crossed is near, and there is no clip position
+    pass : (o : Option ℕ) → clip d ≡ o → Ends (Stop d X) (Free a X side d) o
+        → (b : ℕ) → b % 8 ≡ 0 → Between d X b U → Near d X b × (clip d ≡ none) × Free a X side d
     pass _ c (stops f) b q h = absurd (stopped d _ _ _ b f q (not-passed d _ f c) h)
     pass _ c (runs n) b q h = (near-of d _ U P b r (toward-luma (a .ratio) d u p (drawn d t .1)) q h, c, n)
 
@@ -97,11 +97,11 @@ module _ (a : Axis) (ok : Regular a) (ratio : Ratio (a .ratio)) (side : Side →
     short : (X ≤ U + 7) × (U ≤ X + 7)
     short = at-most-7 d X U P toward (toward-luma (a .ratio) d u p (drawn d t .1)) r
 
-    crossing : (b : ℕ) → b % 4 ≡ 0 → Between d X b U → Near d X b × (clip d ≡ none) × Free a X side d
-    crossing = pass (clip d) refl (clip-ends a ok X side d)
+    crossing : (b : ℕ) → b % 8 ≡ 0 → Between d X b U → Near d X b × (clip d ≡ none) × Free a X side d
+    crossing = pass (clip d) refl (clip-ends a ok X fits side d)
 
     leaving : X / a .ctb ≢ U / a .ctb → Near d X (bound a d X) × (clip d ≡ none) × Free a X side d
-    leaving ne = crossing (bound a d X) (bound4 a ok X d) (leaves a ok d X U toward ne)
+    leaving ne = crossing (bound a d X) (bound8 a ok X d) (leaves a ok d X U toward ne)
 
     pub guarded : Guarded a (λ d. disables (side d)) d X U
     guarded = record {
@@ -110,8 +110,7 @@ module _ (a : Axis) (ok : Regular a) (ratio : Ratio (a .ratio)) (side : Side →
       low = short .0;
       high = short .1;
       clear = λ b w. clear-of d X b U toward (λ h.
-          let b8 = ok .virtual8 b w in
-          let c = crossing b (omega arith) h in
+          let c = crossing b (ok .virtual8 b w) h in
           c .2 .0 b w (c .0));
       enabled = λ ne. let c = leaving ne in c .2 .1 (c .0);
     }

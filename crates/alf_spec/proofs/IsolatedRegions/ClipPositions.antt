@@ -1,11 +1,11 @@
--- A clip position is the first multiple of 4 on its side, and one of three rules finds it; where there is none, no virtual boundary is near, nor
--- the line-buffer boundary, and the CTB's side, if it is near, is not disabled. Assumes nothing.
+-- A clip position stands in the sample's block of 8, or at its end, and one of three rules finds it; where there is none, no virtual boundary is
+-- near, nor the line-buffer boundary, and the CTB's side, if it is near, is not disabled. Assumes nothing.
 use mathlib.Core.Path.{_≡_, refl, sym, ap, _∙_}
 use mathlib.Core.Logic.{_⊎_, inl, inr}
 use mathlib.Core.Bool.{Bool, true, false, _&&_, true≢false}
 use mathlib.Core.List.{List, [], _∷_, List·Memᴰ, List·Memᴰ·head, List·Memᴰ·tail, List·Memᴰ·not-nil, List·Memᴰ·cases-cons}
 use mathlib.Core.Option.{Option, some, none, Option·map}
-use Prim.Native.Nat.{ℕ, _+_, _-_, _/_, _%_, _≤_, _<_}
+use Prim.Native.Nat.{ℕ, pred, _+_, _-_, _/_, _%_, _≤_, _<_}
 use native.Mathlib.Nat.{mod-eq-zero-of-dvd, dvd-of-mod-eq-zero, dvd-mul-left-of-dvd}
 use native.Mathlib.Omega.{arith}
 use lib.Dec.{leb, ltb}
@@ -13,10 +13,11 @@ use borrow.Author.Tests.{ltb-true, leb-true, lt-ltb, le-leb}
 use Rattle.alf_spec.specs.declared.Clip.{Clip}
 use Rattle.alf_spec.specs.declared.ClipCause.{ClipCause}
 use Rattle.alf_spec.specs.declared.ClipCause.the-variants.{LineBufferBoundary, VirtualBoundary}
-use Rattle.alf_spec.specs.Geometry.{Side, before, after, Axis, ctbStart, inCtb}
+use Rattle.alf_spec.specs.Geometry.{Side, before, after, Axis, hasLine, ctbStart, inCtb}
 use Rattle.alf_spec.specs.Boundary.{disables, only, _orElse_, find, near, linePosition, lineClip, virtualClip, sideClip, clip, clipPosition}
 use Rattle.alf_spec.proofs.Tests.{both, and-no}
 use Rattle.alf_spec.proofs.Axes.{Regular, lower, upper, parts}
+use Rattle.alf_spec.proofs.IsolatedRegions.Ratios.{LineFits}
 
 -- ---- options
 
@@ -75,7 +76,7 @@ Near after x b = (x < b) × (b ≤ x + 4)
 at-most : (m n k : ℕ) → leb m n ≡ true → n ≤ k → m ≤ k
 at-most m n k q h = let l = leb-true m n q in omega arith
 
-near-yes : (d : Side) (x b : ℕ) → near d x b ≡ true → Near d x b
+pub near-yes : (d : Side) (x b : ℕ) → near d x b ≡ true → Near d x b
 near-yes before x b q =
     let h = both (leb b x) _ q in
     let l = leb-true b x (h .0) in
@@ -91,14 +92,15 @@ yes-near : (d : Side) (x b : ℕ) → Near d x b → near d x b ≡ true
 yes-near before x b n = simp (le-leb b x (n .0)) (le-leb (x - b) _ (omega arith))
 yes-near after x b n = simp (lt-ltb x b (n .0)) (le-leb (b - x) _ (omega arith))
 
--- e is the first multiple of 4 on that side of x
-abbrev pub First : Side → ℕ → ℕ → Type 0
-First before x e = (e % 4 ≡ 0) × (e ≤ x) × (x < e + 4)
-First after x e = (e % 4 ≡ 0) × (x < e) × (e ≤ x + 4)
+-- e is even and stands on that side of x, and no multiple of 8 stands between the two: the samples from x to e are of one block of 8. Virtual
+-- boundaries and the sides of CTBs are multiples of 8, so that what stops at e crosses none of them.
+abbrev pub Stop : Side → ℕ → ℕ → Type 0
+Stop before x e = (e % 2 ≡ 0) × (e ≤ x) × (e / 8 ≡ x / 8)
+Stop after x e = (e % 2 ≡ 0) × (x < e) × (pred e / 8 ≡ x / 8)
 
-near-first : (d : Side) (x b : ℕ) → b % 4 ≡ 0 → Near d x b → First d x b
-near-first before x b q n = omega arith
-near-first after x b q n = omega arith
+near-stop : (d : Side) (x b : ℕ) → b % 8 ≡ 0 → Near d x b → Stop d x b
+near-stop before x b q n = omega arith
+near-stop after x b q n = omega arith
 
 -- ---- the rules
 
@@ -116,37 +118,37 @@ abbrev sideLimit : Side → ℕ
 sideLimit before = 3
 sideLimit after = 5
 
--- no virtual boundary is near on that side, and if the CTB's side is, it is not side
+-- no virtual boundary is near on that side, and if the CTB's side is, it is not disabled
 abbrev pub Free : Axis → ℕ → (Side → ClipCause) → Side → Type 0
 Free a x side d = ((b : ℕ) → List·Memᴰ b (a .virtualBoundaries) → ¬ Near d x b) × (Near d x (bound a d x) → disables (side d) ≡ false)
 
--- the rule that finds the clip position e of x on that side: the line-buffer boundary, a virtual boundary, or the CTB's side where it is side
+-- the rule that finds the clip position e of x on that side: the line-buffer boundary, a virtual boundary, or the CTB's side where it is disabled
 pub data Rule (a : Axis) (x : ℕ) (side : Side → ClipCause) (d : Side) (e : ℕ) : Type 0 where
-  line-rule : a .hasLine ≡ true → e ≡ linePosition a x → Rule a x side d e
+  line-rule : hasLine a ≡ true → e ≡ linePosition a x → Rule a x side d e
   virtual-rule : List·Memᴰ e (a .virtualBoundaries) → Rule a x side d e
   side-rule : e ≡ bound a d x → disables (side d) ≡ true → Rule a x side d e
 
 pub record Found (a : Axis) (x : ℕ) (side : Side → ClipCause) (d : Side) (e : ℕ) : Type 0 where
-  pub first : First d x e
+  pub stop : Stop d x e
   pub rule : Rule a x side d e
+  -- the line-buffer boundary, or a multiple of 8 that is near
+  pub place : ((hasLine a ≡ true) × (e ≡ linePosition a x)) ⊎ ((e % 8 ≡ 0) × Near d x e)
 
 -- no rule finds one
 pub record Clear (a : Axis) (x : ℕ) (side : Side → ClipCause) (d : Side) : Type 0 where
   pub free : Free a x side d
-  pub noLine : a .hasLine ≡ true → ¬ Near d x (linePosition a x)
+  pub noLine : hasLine a ≡ true → ¬ Near d x (linePosition a x)
 
 module _ (a : Axis) (ok : Regular a) (x : ℕ) where
-  start4 : ctbStart a x % 4 ≡ 0
-  start4 =
-      let c : a .ctb % 4 ≡ 0 = omega (arith, ok .ctb8) in
-      mod-eq-zero-of-dvd 4 (dvd-mul-left-of-dvd _ (dvd-of-mod-eq-zero 4 c) (x / a .ctb))
+  start8 : ctbStart a x % 8 ≡ 0
+  start8 = mod-eq-zero-of-dvd 8 (dvd-mul-left-of-dvd _ (dvd-of-mod-eq-zero 8 (ok .ctb8)) (x / a .ctb))
 
-  pub bound4 : (d : Side) → bound a d x % 4 ≡ 0
-  bound4 before = start4
-  bound4 after = omega (arith, start4, ok .ctb8)
+  pub bound8 : (d : Side) → bound a d x % 8 ≡ 0
+  bound8 before = start8
+  bound8 after = omega (arith, start8, ok .ctb8)
 
-  line4 : linePosition a x % 4 ≡ 0
-  line4 = omega (arith, start4, ok .ctb8, ok .big)
+  pub bound-even : (d : Side) → bound a d x % 2 ≡ 0
+  bound-even d = omega (arith, bound8 d)
 
   side-near : (d : Side) (n : ℕ) → n ≤ sideLimit d → sideTest a d x n ≡ true → Near d x (bound a d x)
   side-near before n h q = let k = ltb-true (inCtb a x) n q in omega (arith, lower a x, parts a x)
@@ -156,21 +158,28 @@ module _ (a : Axis) (ok : Regular a) (x : ℕ) where
   near-side before n h k = lt-ltb (inCtb a x) n (omega (arith, parts a x))
   near-side after n h k = lt-ltb (a .ctb - inCtb a x) n (omega (arith, parts a x))
 
-  module _ (side : Side → ClipCause) where
-    found-line : (d : Side) → ClipEnds (Found a x side d) (a .hasLine ≡ true → ¬ Near d x (linePosition a x)) (lineClip a x d)
+  module _ (fits : LineFits (a .line)) (side : Side → ClipCause) where
+    line-found : (d : Side) → Stop d x (linePosition a x) → hasLine a ≡ true → Found a x side d (linePosition a x)
+    line-found d s h = record { stop = s; rule = line-rule h refl; place = inl (h, refl) }
+
+    near-found : (d : Side) (e : ℕ) → e % 8 ≡ 0 → Near d x e → Rule a x side d e → Found a x side d e
+    near-found d e q n r = record { stop = near-stop d x e q n; rule = r; place = inr (q, n) }
+
+    found-line : (d : Side) → ClipEnds (Found a x side d) (hasLine a ≡ true → ¬ Near d x (linePosition a x)) (lineClip a x d)
     unfolding lineClip
     found-line before = only-ends _ LineBufferBoundary (linePosition a x)
         (λ q.
-        let h = both (a .hasLine) (leb (a .ctb - 4) (inCtb a x)) q in
-        let l = leb-true (a .ctb - 4) (inCtb a x) (h .1) in
-        record { first = omega (arith, line4, ok .big, upper a ok x, parts a x); rule = line-rule (h .0) refl })
+        let h = both (hasLine a) (leb (a .ctb - a .line) (inCtb a x)) q in
+        let l = leb-true (a .ctb - a .line) (inCtb a x) (h .1) in
+        line-found before (omega (arith, fits .0, fits .1, start8, ok .ctb8, ok .big, upper a ok x, parts a x)) (h .0))
         (λ q line n.
-        true≢false (sym (le-leb (a .ctb - 4) (inCtb a x) (omega (arith, parts a x))) ∙ and-no (a .hasLine) (leb (a .ctb - 4) (inCtb a x)) q line))
+        true≢false (sym (le-leb (a .ctb - a .line) (inCtb a x) (omega (arith, parts a x))) ∙ and-no (hasLine a) (leb (a .ctb - a .line) (inCtb a x)) q line))
     found-line after = only-ends _ LineBufferBoundary (linePosition a x)
         (λ q.
-        let h = both (a .hasLine) (near after x (linePosition a x)) q in
-        record { first = near-first after x (linePosition a x) line4 (near-yes after x (linePosition a x) (h .1)); rule = line-rule (h .0) refl })
-        (λ q line n. true≢false (sym (yes-near after x (linePosition a x) n) ∙ and-no (a .hasLine) (near after x (linePosition a x)) q line))
+        let h = both (hasLine a) (near after x (linePosition a x)) q in
+        let n = near-yes after x (linePosition a x) (h .1) in
+        line-found after (omega (arith, fits .0, fits .1, start8, ok .ctb8, ok .big, n, parts a x)) (h .0))
+        (λ q line n. true≢false (sym (yes-near after x (linePosition a x) n) ∙ and-no (hasLine a) (near after x (linePosition a x)) q line))
 
     found-virtual : (d : Side)
         → ClipEnds (Found a x side d) ((b : ℕ) → List·Memᴰ b (a .virtualBoundaries) → ¬ Near d x b) (virtualClip a x d)
@@ -178,8 +187,7 @@ module _ (a : Axis) (ok : Regular a) (x : ℕ) where
     found-virtual d =
         where-none (λ far b m n. true≢false (sym (yes-near d x b n) ∙ far b m))
         (find-ends (near d x) (a .virtualBoundaries) (λ v m q.
-        let v8 = ok .virtual8 v m in
-        record { first = near-first d x v (omega arith) (near-yes d x v q); rule = virtual-rule m }))
+        near-found d v (ok .virtual8 v m) (near-yes d x v q) (virtual-rule m)))
 
     tested-side : (d : Side) (n : ℕ) → n ≤ sideLimit d → sideLimit d ≤ n
         → ClipEnds (Found a x side d) (Near d x (bound a d x) → disables (side d) ≡ false) (only (sideTest a d x n && disables (side d)) (side d) (bound a d x))
@@ -187,7 +195,7 @@ module _ (a : Axis) (ok : Regular a) (x : ℕ) where
         only-ends (sideTest a d x n && disables (side d)) (side d) (bound a d x)
         (λ q.
         let t = both (sideTest a d x n) (disables (side d)) q in
-        record { first = near-first d x (bound a d x) (bound4 d) (side-near d n h (t .0)); rule = side-rule refl (t .1) })
+        near-found d (bound a d x) (bound8 d) (side-near d n h (t .0)) (side-rule refl (t .1)))
         (λ q near. and-no (sideTest a d x n) (disables (side d)) q (near-side d n k near))
 
     found-side : (d : Side) → ClipEnds (Found a x side d) (Near d x (bound a d x) → disables (side d) ≡ false) (sideClip a x side d)
@@ -207,5 +215,5 @@ module _ (a : Axis) (ok : Regular a) (x : ℕ) where
     unfolding clipPosition
     clip-found d = position-ends (by-rules d)
 
-    pub clip-ends : (d : Side) → Ends (First d x) (Free a x side d) (clipPosition a x side d)
-    clip-ends d = map-ends (λ e f. f .first) (λ n. n .free) (clip-found d)
+    pub clip-ends : (d : Side) → Ends (Stop d x) (Free a x side d) (clipPosition a x side d)
+    clip-ends d = map-ends (λ e f. f .stop) (λ n. n .free) (clip-found d)

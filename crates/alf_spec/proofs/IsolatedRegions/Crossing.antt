@@ -31,14 +31,14 @@ inner a disabled disabled′ b hi free q = (
 abbrev ctbHolding : Layout → ℕ → ℕ → Ctb
 ctbHolding l x y = record { column = x / ctbSize (l .picture); row = y / ctbSize (l .picture) }
 
-module _ (l : Layout) (columnRatio rowRatio x y : ℕ) where
+module _ (l : Layout) (columnRatio rowRatio line x y : ℕ) where
   -- steps in terms of that CTB, for the axes of a plane of any ratio
-  column-step : (d : Side) → openStep (planeOf l columnRatio rowRatio .columns) (columnDisabled l (ctbHolding l x y)) d x ≡ true
+  column-step : (d : Side) → openStep (planeOf l columnRatio rowRatio line .columns) (columnDisabled l (ctbHolding l x y)) d x ≡ true
       → columnStep l x y d ≡ true
   unfolding columnStep openStep planeOf
   column-step d q = rw (mul-one x, mul-one y) q
 
-  row-step : (e : Side) → openStep (planeOf l columnRatio rowRatio .rows) (rowDisabled l (ctbHolding l x y)) e y ≡ true → rowStep l x y e ≡ true
+  row-step : (e : Side) → openStep (planeOf l columnRatio rowRatio line .rows) (rowDisabled l (ctbHolding l x y)) e y ≡ true → rowStep l x y e ≡ true
   unfolding rowStep openStep planeOf
   row-step e q = rw (mul-one x, mul-one y) q
 
@@ -55,18 +55,18 @@ diagonal-step : (l : Layout) (d e : Side) (m n : ℕ) → columnStep l m n d ≡
 unfolding diagonalStep planeOf
 diagonal-step l d e m n q q′ f = simp (q, q′, mul-one m, mul-one n, mul-one (next d m), mul-one (next e n), not-corner d e _ f)
 
-module _ (l : Layout) (ok : Accepted l) (columnRatio rowRatio : ℕ) where
+module _ (l : Layout) (ok : Accepted l) (columnRatio rowRatio line : ℕ) where
   abbrev columns : Axis
-  columns = planeOf l columnRatio rowRatio .columns
+  columns = planeOf l columnRatio rowRatio line .columns
 
   abbrev rows : Axis
-  rows = planeOf l columnRatio rowRatio .rows
+  rows = planeOf l columnRatio rowRatio line .rows
 
   okX : Regular columns
-  okX = regular-columns l ok columnRatio rowRatio
+  okX = regular-columns l ok columnRatio rowRatio line
 
   okY : Regular rows
-  okY = regular-rows l ok columnRatio rowRatio
+  okY = regular-rows l ok columnRatio rowRatio line
 
   -- a diagonal step over both sides of a CTB leads to the CTB that the corner flag speaks of
   corner-open : (d e : Side) (m n : ℕ) → d ≡ e
@@ -85,16 +85,16 @@ module _ (l : Layout) (ok : Accepted l) (columnRatio rowRatio : ℕ) where
     unfolding Closed
     closedX y b hi free q =
         let o = inner columns (columnDisabled l (ctbHolding l b y)) (columnDisabled l (ctbHolding l (suc b) y)) b hi free q in (
-          λ r. held-column l region iso b y r after (column-step l columnRatio rowRatio b y after (o .0)),
-          λ r. held-column l region iso (suc b) y r before (column-step l columnRatio rowRatio (suc b) y before (o .1)),
+          λ r. held-column l region iso b y r after (column-step l columnRatio rowRatio line b y after (o .0)),
+          λ r. held-column l region iso (suc b) y r before (column-step l columnRatio rowRatio line (suc b) y before (o .1)),
         )
 
     closedY : (x : ℕ) → Closed rows (λ y. Held l region x y)
     unfolding Closed
     closedY x b hi free q =
         let o = inner rows (rowDisabled l (ctbHolding l x b)) (rowDisabled l (ctbHolding l x (suc b))) b hi free q in (
-          λ r. held-row l region iso x b r after (row-step l columnRatio rowRatio x b after (o .0)),
-          λ r. held-row l region iso x (suc b) r before (row-step l columnRatio rowRatio x (suc b) before (o .1)),
+          λ r. held-row l region iso x b r after (row-step l columnRatio rowRatio line x b after (o .0)),
+          λ r. held-row l region iso x (suc b) r before (row-step l columnRatio rowRatio line x (suc b) before (o .1)),
         )
 
     walkX : {x u y : ℕ} → Cell columns x u → Held l region x y → Held l region u y
@@ -111,10 +111,10 @@ module _ (l : Layout) (ok : Accepted l) (columnRatio rowRatio : ℕ) where
 
       -- so a step over its side is open at each
       stepX : {m n : ℕ} → Over columns (columnDisabled l (ctbHolding l x y)) d x u m → Cell columns x m → Cell rows y n → columnStep l m n d ≡ true
-      stepX {m} {n} o c k = column-step l columnRatio rowRatio m n d (carry c k (λ ctb. openStep columns (columnDisabled l ctb) d m ≡ true) (o .step))
+      stepX {m} {n} o c k = column-step l columnRatio rowRatio line m n d (carry c k (λ ctb. openStep columns (columnDisabled l ctb) d m ≡ true) (o .step))
 
       stepY : {m n : ℕ} → Over rows (rowDisabled l (ctbHolding l x y)) e y v n → Cell columns x m → Cell rows y n → rowStep l m n e ≡ true
-      stepY {m} {n} w c k = row-step l columnRatio rowRatio m n e (carry c k (λ ctb. openStep rows (rowDisabled l ctb) e n ≡ true) (w .step))
+      stepY {m} {n} w c k = row-step l columnRatio rowRatio line m n e (carry c k (λ ctb. openStep rows (rowDisabled l ctb) e n ≡ true) (w .step))
 
       -- the one claim about two axes: first along cells, then over a side or a corner, if any, then along cells again
       pub arrive : Way columns (columnDisabled l (ctbHolding l x y)) d x u → Way rows (rowDisabled l (ctbHolding l x y)) e y v

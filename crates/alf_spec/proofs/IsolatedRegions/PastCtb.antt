@@ -10,7 +10,7 @@ use Rattle.alf_spec.specs.Padding.{ctbEnd, pastCtb}
 use Rattle.alf_spec.proofs.Axes.{not-gt, Regular, lower, upper, ctb-of, past-end}
 use Rattle.alf_spec.proofs.IsolatedRegions.Cells.{Cell, part}
 use Rattle.alf_spec.proofs.IsolatedRegions.Ratios.{Ratio, boundary, own-lt, lt-own, last-own, last-in, Toward}
-use Rattle.alf_spec.proofs.IsolatedRegions.ClipPositions.{bound, bound4}
+use Rattle.alf_spec.proofs.IsolatedRegions.ClipPositions.{bound, bound-even}
 use Rattle.alf_spec.proofs.IsolatedRegions.Ways.{outermost}
 
 -- the boundary b is crossed on the way from x to u
@@ -39,10 +39,10 @@ module _ (a : Axis) (ok : Regular a) (ratio : Ratio (a .ratio)) (x u : ℕ) wher
 
   -- u lies past the last of the CTB's samples exactly when it lies past the CTB's end
   after-last : (pred (ctbStart a X / a .ratio + a .ctb / a .ratio) < u) ↔ (bound a after X ≤ U)
-  after-last = last-own (a .ratio) ratio (ctbStart a X) (a .ctb) u (bound4 a ok X before) (ok .ctb8) (ok .big)
+  after-last = last-own (a .ratio) ratio (ctbStart a X) (a .ctb) u (bound-even a ok X before) (ok .ctb8) (ok .big)
 
   pub past : (d : Side) → Between d X (bound a d X) U → pastCtb a d x u ≡ true
-  past before h = lt-ltb u (ctbEnd a before x) (own-lt (a .ratio) ratio (ctbStart a X) u (bound4 a ok X before) (h .1))
+  past before h = lt-ltb u (ctbEnd a before x) (own-lt (a .ratio) ratio (ctbStart a X) u (bound-even a ok X before) (h .1))
   past after h = lt-ltb (ctbEnd a after x) u (after-last .1 (h .1))
 
   pub beyond : (d : Side) → pastCtb a d x u ≡ true → Beyond d (bound a d X) U
@@ -66,9 +66,9 @@ pub end-cell : (a : Axis) → Regular a → Ratio (a .ratio) → (d : Side) (x m
     → Cell a (lumaPosition a x) (lumaPosition a (ctbEnd a d x))
 end-cell a ok ratio before x m q c =
     let start = ctbStart a (lumaPosition a x) in
-    rw (boundary (a .ratio) ratio start (bound4 a ok (lumaPosition a x) before), q) c
+    rw (boundary (a .ratio) ratio start (bound-even a ok (lumaPosition a x) before), q) c
 end-cell a ok ratio after x m q c =
     let start = ctbStart a (lumaPosition a x) in
-    let start4 = bound4 a ok (lumaPosition a x) before in
-    let h = last-in (a .ratio) ratio start (a .ctb) x start4 (ok .ctb8) (ok .big) (upper a ok (lumaPosition a x)) in
+    let even = bound-even a ok (lumaPosition a x) before in
+    let h = last-in (a .ratio) ratio start (a .ctb) x even (ok .ctb8) (ok .big) (upper a ok (lumaPosition a x)) in
     part a ok (h .0) (omega (arith, h .1)) c

@@ -16,23 +16,23 @@ use Rattle.alf_spec.proofs.Accepted.{Accepted}
 use Rattle.alf_spec.proofs.Axes.{Regular, regular-columns, regular-rows}
 use Rattle.alf_spec.proofs.IsolatedRegions.Clamping.{guarded, crossed}
 use Rattle.alf_spec.proofs.IsolatedRegions.PastCtb.{past-other, past-side, end-cell}
-use Rattle.alf_spec.proofs.IsolatedRegions.Ratios.{Ratio, own-lt, lt-own, Toward}
+use Rattle.alf_spec.proofs.IsolatedRegions.Ratios.{Ratio, LineFits, no-line, own-lt, lt-own, Toward}
 use Rattle.alf_spec.proofs.IsolatedRegions.Crossing.{arrive}
 use Rattle.alf_spec.proofs.IsolatedRegions.Held.{Held}
 use Rattle.alf_spec.proofs.IsolatedRegions.Inside.{Inside, SameInside}
 use Rattle.alf_spec.proofs.IsolatedRegions.Reach.{Reach, SameReads}
 use Rattle.alf_spec.proofs.IsolatedRegions.Ways.{Guarded, Way, here, over, way}
 
-module _ (l : Layout) (ok : Accepted l) (region : List ℕ) (iso : isolated l region ≡ true) (columnRatio rowRatio : ℕ)
-    (rc : Ratio columnRatio) (rr : Ratio rowRatio) where
+module _ (l : Layout) (ok : Accepted l) (region : List ℕ) (iso : isolated l region ≡ true) (columnRatio rowRatio line : ℕ)
+    (rc : Ratio columnRatio) (rr : Ratio rowRatio) (rl : LineFits line) where
   abbrev g : Plane
-  g = planeOf l columnRatio rowRatio
+  g = planeOf l columnRatio rowRatio line
 
   okX : Regular (g .columns)
-  okX = regular-columns l ok columnRatio rowRatio
+  okX = regular-columns l ok columnRatio rowRatio line
 
   okY : Regular (g .rows)
-  okY = regular-rows l ok columnRatio rowRatio
+  okY = regular-rows l ok columnRatio rowRatio line
 
   ratioX : Ratio (g .columns .ratio)
   unfolding planeOf
@@ -41,6 +41,14 @@ module _ (l : Layout) (ok : Accepted l) (region : List ℕ) (iso : isolated l re
   ratioY : Ratio (g .rows .ratio)
   unfolding planeOf
   ratioY = rr
+
+  lineX : LineFits (g .columns .line)
+  unfolding planeOf
+  lineX = no-line
+
+  lineY : LineFits (g .rows .line)
+  unfolding planeOf
+  lineY = rl
 
   -- the plane's own samples and their luma positions
   to-luma : (x y : ℕ) → Inside l region g x y → Held l region (lumaPosition (g .columns) x) (lumaPosition (g .rows) y)
@@ -77,11 +85,11 @@ module _ (l : Layout) (ok : Accepted l) (region : List ℕ) (iso : isolated l re
 
     guardedX : Guarded (g .columns) (columnDisabled l (ctbAt g x y)) d X (lumaPosition (g .columns) u)
     unfolding columnClip
-    guardedX = guarded (g .columns) okX ratioX (columnSide l (ctbAt g x y)) x p (i .column) d tx rx
+    guardedX = guarded (g .columns) okX ratioX lineX (columnSide l (ctbAt g x y)) x p (i .column) d tx rx
 
     guardedY : Guarded (g .rows) (rowDisabled l (ctbAt g x y)) e Y (lumaPosition (g .rows) v)
     unfolding rowClip
-    guardedY = guarded (g .rows) okY ratioY (rowSide l (ctbAt g x y)) y q (i .row) e ty ry
+    guardedY = guarded (g .rows) okY ratioY lineY (rowSide l (ctbAt g x y)) y q (i .row) e ty ry
 
     wayX : Way (g .columns) (columnDisabled l (ctbAt g x y)) d X (lumaPosition (g .columns) u)
     wayX =
@@ -101,7 +109,7 @@ module _ (l : Layout) (ok : Accepted l) (region : List ℕ) (iso : isolated l re
     back f s ne (here c) = absurd (ne (c .ctb))
     back f s ne (over m o) =
         let c = end-cell (g .columns) okX ratioX d x m (o .atEnd) (o .inner) in
-        rw (← s) (arrive l ok columnRatio rowRatio region iso d e X Y _ _ (to-luma x y i) (here c) wayY (λ n _ _. absurd (n (c .ctb))))
+        rw (← s) (arrive l ok columnRatio rowRatio line region iso d e X Y _ _ (to-luma x y i) (here c) wayY (λ n _ _. absurd (n (c .ctb))))
 
     moved : (f : Side) → pastCorner l g x y p q f ≡ true
         → Held l region (lumaPosition (g .columns) (ctbEnd (g .columns) f x)) (lumaPosition (g .rows) v)
@@ -115,8 +123,8 @@ module _ (l : Layout) (ok : Accepted l) (region : List ℕ) (iso : isolated l re
         → Y / g .rows .ctb ≢ lumaPosition (g .rows) v / g .rows .ctb → d ≡ e → cornerDisabled l (ctbAt g x y) d ≡ false
     unfolding pastCorner columnClip rowClip
     uncornered t nx ny s =
-        let cx = crossed (g .columns) okX ratioX (columnSide l (ctbAt g x y)) x p (i .column) d tx rx nx in
-        let cy = crossed (g .rows) okY ratioY (rowSide l (ctbAt g x y)) y q (i .row) e ty ry ny in
+        let cx = crossed (g .columns) okX ratioX lineX (columnSide l (ctbAt g x y)) x p (i .column) d tx rx nx in
+        let cy = crossed (g .rows) okY ratioY lineY (rowSide l (ctbAt g x y)) y q (i .row) e ty ry ny in
         let pastY : pastCtb (g .rows) d y v ≡ true = rw s (cy .1) in
         let noneY : isNone (rowClip l g x y d) ≡ true = rw s (ap isNone (cy .0)) in
         and-no _ _ (and-no _ _ (and-no _ _ (and-no _ _ t (cx .1)) pastY) (ap isNone (cx .0))) noneY
@@ -126,7 +134,7 @@ module _ (l : Layout) (ok : Accepted l) (region : List ℕ) (iso : isolated l re
     unfolding planeOf
     padded true t h k = moved before h
     padded false true h k = moved after k
-    padded false false h k = arrive l ok columnRatio rowRatio region iso d e X Y _ _ (to-luma x y i) wayX wayY (uncornered (neither d h k))
+    padded false false h k = arrive l ok columnRatio rowRatio line region iso d e X Y _ _ (to-luma x y i) wayX wayY (uncornered (neither d h k))
       where
         neither : (f : Side) → pastCorner l g x y p q before ≡ false → pastCorner l g x y p q after ≡ false → pastCorner l g x y p q f ≡ false
         neither before h k = h

@@ -136,6 +136,6 @@ module _ (l : Layout) (region : List ℕ) (i j : Input) where
     unfolding crossSample crossWith sliceParam bankNumber
     same-cross reads old x y s filters =
         let index = filters .ctbParams (6 + component) (omega arith) in
-        let t = luma-inside l (subWidth (l .picture)) (subHeight (l .picture)) region x y s in
+        let t = luma-inside l (subWidth (l .picture)) (subHeight (l .picture)) (2 * subHeight (l .picture)) region x y s in
         same-corrected (luma-reads l region (i .luma) (j .luma) reads _ _ t) (here 3 _ _) _
         (crossTaps _ _ _) (cross-taps _ _ _ (cross-offsets _ _)) (old x y s) (λ n. cc index)

@@ -63,9 +63,9 @@ module _ (l : Layout) (ok : Accepted l) (P : Ctb → Bool) where
   inside-region : (x y : ℕ) → x < l .picture .width → y < l .picture .height → inside l (regionOf l P) x y ≡ P (ctbAt (lumaPlane l) x y)
   unfolding planeOf inside regionOf
   inside-region x y column row =
-      let columns = regular-columns l ok 1 1 in
+      let columns = regular-columns l ok 1 1 4 in
       let inColumn : x / 8 < l .picture .width / 8 = omega (arith, columns .size8) in
-      let inRow : y / 8 < l .picture .height / 8 = omega (arith, regular-rows l ok 1 1 .size8) in
+      let inRow : y / 8 < l .picture .height / 8 = omega (arith, regular-rows l ok 1 1 4 .size8) in
       let inIndex = index-below (blockPlane l) (x / 8) (y / 8) inColumn inRow in
       simp (tabulate-at, bit, index-column (blockPlane l), index-row (blockPlane l), block-ctb (lumaPlane l .columns) columns refl)
 
@@ -110,12 +110,12 @@ module _ (l : Layout) (ok : Accepted l) (P : Ctb → Bool) (kept : Kept l P) whe
     column-move : (d : Side) → columnStep l x y d ≡ true
         → (next d x < l .picture .width) × Move (ctbColumns l) (columnDisabled l own) d (own .column) (ctbAt (lumaPlane l) (next d x) y .column)
     unfolding planeOf columnStep
-    column-move d = open-move (lumaPlane l .columns) (regular-columns l ok 1 1) refl (columnDisabled l own) d x
+    column-move d = open-move (lumaPlane l .columns) (regular-columns l ok 1 1 4) refl (columnDisabled l own) d x
 
     row-move : (e : Side) → rowStep l x y e ≡ true
         → (next e y < l .picture .height) × Move (ctbRows l) (rowDisabled l own) e (own .row) (ctbAt (lumaPlane l) x (next e y) .row)
     unfolding planeOf rowStep
-    row-move e = open-move (lumaPlane l .rows) (regular-rows l ok 1 1) refl (rowDisabled l own) e y
+    row-move e = open-move (lumaPlane l .rows) (regular-rows l ok 1 1 4) refl (rowDisabled l own) e y
 
     column-inside : (d : Side) → columnStep l x y d ≡ true → inside l (regionOf l P) (next d x) y ≡ true
     column-inside d o =
