@@ -3,8 +3,8 @@ use mathlib.Core.Path.{_≡_, refl, sym, _∙_}
 use mathlib.Core.Bool.{Bool, true, false}
 use mathlib.Core.List.{List}
 use mathlib.Core.Option.{some, none}
-use Prim.Native.Nat.{ℕ, _+_, _-_, _≤_, _<_}
-use native.Mathlib.Nat.{le-antisymm}
+use Prim.Native.Nat.{ℕ, _+_, _-_, _*_, _/_, _%_, _≤_, _<_}
+use native.Mathlib.Nat.{le-antisymm, div-mul-le-self, div-add-mod'}
 use native.Mathlib.Numerals.{add-one}
 use native.Mathlib.Omega.{arith}
 use lib.Dec.{leb}
@@ -21,6 +21,13 @@ distance-le x v k =
     same-test _ _
     (λ q. let h = leb-true (x - v) k q in le-leb x (v + k) (omega arith))
     (λ q. let h = leb-true x (v + k) q in le-leb (x - v) k (omega arith))
+
+-- where the CTB of x begins, and how far x lies in it
+pub start-le : (start ctb x : ℕ) → start ≡ x / ctb * ctb → start ≤ x
+start-le start ctb x e = omega (arith, div-mul-le-self x ctb)
+
+pub in-ctb : (start ctb x : ℕ) → start ≡ x / ctb * ctb → x - start ≡ x % ctb
+in-ctb start ctb x e = omega (arith, div-add-mod' x ctb)
 
 -- ---- a loop that is left at the first entry that passes
 

@@ -1,8 +1,9 @@
 -- Clip positions as code has them, and the axis that they lie along. Assumes nothing.
+use mathlib.Core.Path.{_≡_}
 use mathlib.Core.Bool.{Bool, true, false}
 use mathlib.Core.List.{List}
 use mathlib.Core.Option.{Option, some, none, Option·map}
-use Prim.Native.Nat.{ℕ, _≤_}
+use Prim.Native.Nat.{ℕ, _*_, _/_, _≤_}
 use Rattle.alf_spec.specs.declared.Clip.{Clip}
 use Rattle.alf_spec.specs.Geometry.{Side, before, after, Axis}
 use Rattle.alf_boundary.specs.declared.clips.FoundClip.{FoundClip}
@@ -23,15 +24,19 @@ sideOf false = before
 sideOf true = after
 
 -- the axis with these fields
-abbrev pub axisOf : ℕ → ℕ → List ℕ → Bool → ℕ → Axis
+abbrev pub axisOf : ℕ → ℕ → List ℕ → ℕ → ℕ → Axis
 axisOf size ctb virtualBoundaries line ratio = record {
   size = size;
   ctb = ctb;
   virtualBoundaries = virtualBoundaries;
-  hasLine = line;
+  line = line;
   ratio = ratio;
 }
 
 -- a CTB's side and a position, as small as 32-bit sums need
 abbrev pub Bounded : ℕ → ℕ → Type 0
 Bounded ctb x = (4 ≤ ctb) × (ctb ≤ 128) × (x ≤ 65535)
+
+-- the same, how far above a CTB's bottom the line lies, and where the CTB of the position begins: a caller that goes along a CTB knows it
+abbrev pub InCtb : ℕ → ℕ → ℕ → ℕ → Type 0
+InCtb start ctb line x = (4 ≤ ctb) × (ctb ≤ 128) × (x ≤ 65535) × (line ≤ 4) × (start ≡ x / ctb * ctb)

@@ -1,13 +1,12 @@
 // The clip positions of a position along an axis of the picture, and their causes: the line-buffer boundary, a virtual boundary, or why filtering across
 // the side of its CTB is disabled.
 ghost use mathlib.Core.Path.{_≡_};
-ghost use mathlib.Core.Bool.{Bool};
 ghost use mathlib.Core.List.{List};
-ghost use Prim.Native.Nat.{ℕ, _+_, _-_, _*_, _/_, _%_, _≤_, _<_};
+ghost use Prim.Native.Nat.{ℕ, _+_, _-_, _*_, _/_, _≤_, _<_};
 ghost use Rattle.alf_spec.specs.declared.ClipCause.{ClipCause};
 ghost use Rattle.alf_spec.specs.Geometry.{Side, before, after, Axis, lineRule};
 ghost use Rattle.alf_spec.specs.Boundary.{only, _orElse_, near, lineClip, virtualClip, sideClip, clip, causeOf};
-ghost use Rattle.alf_boundary.specs.Clips.{clipOf, sideOf, axisOf, Bounded};
+ghost use Rattle.alf_boundary.specs.Clips.{clipOf, sideOf, axisOf, Bounded, InCtb};
 use crate::sides::disables;
 use alf_spec::Clip;
 use alf_spec::ClipCause;
@@ -67,7 +66,7 @@ fn is_near(after: bool, x: u32, boundary: u32) -> bool
 // The first virtual boundary that is near x on that side.
 pub fn virtual_clip(after: bool, boundaries: &[u16], x: u32) -> FoundClip
     requires { ⌜ x ≤ 65535 ⌝ }
-    ensures { λ r. ⌜ ((size ctb : ℕ) (line : Bool) (ratio : ℕ)
+    ensures { λ r. ⌜ ((size ctb line ratio : ℕ)
         → clipOf r ≡ virtualClip (axisOf size ctb (now (boundaries .entry)) line ratio) x (sideOf after)) ⌝ }
 {
     let mut i = 0;
@@ -100,74 +99,84 @@ pub fn line_rule(size: u32, ctb: u32, y: u32) -> bool
     ctb_start(ctb, y) + ctb <= size
 }
 
-// The line-buffer boundary, 4 rows above the CTB's bottom, where x is at or below it.
-fn line_clip_before(ctb: u32, line: bool, x: u32) -> FoundClip
-    requires { ⌜ Bounded ctb x ⌝ }
+// The line-buffer boundary, which lies so many luma rows above the CTB's bottom, where x is at or below it; there is none where the number is 0.
+fn line_clip_before(start: u32, ctb: u32, line: u32, x: u32) -> FoundClip
+    requires { ⌜ InCtb start ctb line x ⌝ }
     ensures { λ r. ⌜ ((size : ℕ) (boundaries : List ℕ) (ratio : ℕ) → clipOf r ≡ lineClip (axisOf size ctb boundaries line ratio) x before) ⌝ }
 {
-    let at = ctb_start(ctb, x) + (ctb - 4);
+    let at = start + (ctb - line);
     only_if(
-        line & (ctb - 4 <= x % ctb),
+        (0 < line) & (ctb - line <= x - start),
         ClipCause::LineBufferBoundary,
         at,
     )
 }
 
 // The same where x is 1 to 4 rows above it.
-fn line_clip_after(ctb: u32, line: bool, x: u32) -> FoundClip
-    requires { ⌜ Bounded ctb x ⌝ }
+fn line_clip_after(start: u32, ctb: u32, line: u32, x: u32) -> FoundClip
+    requires { ⌜ InCtb start ctb line x ⌝ }
     ensures { λ r. ⌜ ((size : ℕ) (boundaries : List ℕ) (ratio : ℕ) → clipOf r ≡ lineClip (axisOf size ctb boundaries line ratio) x after) ⌝ }
 {
-    let at = ctb_start(ctb, x) + (ctb - 4);
+    let at = start + (ctb - line);
     only_if(
-        line & ((x < at) & (at <= x + 4)),
+        (0 < line) & ((x < at) & (at <= x + 4)),
         ClipCause::LineBufferBoundary,
         at,
     )
 }
 
 // The side of the CTB left of x or above it, where x is at most 2 from it and filtering across it is disabled.
-fn side_clip_before(ctb: u32, side: ClipCause, x: u32) -> FoundClip
-    requires { ⌜ Bounded ctb x ⌝ }
-    ensures { λ r. ⌜ ((size : ℕ) (boundaries : List ℕ) (line : Bool) (ratio : ℕ) (sides : Side → ClipCause) → sides before ≡ side
+fn side_clip_before(start: u32, ctb: u32, side: ClipCause, x: u32) -> FoundClip
+    requires { ⌜ InCtb start ctb 0 x ⌝ }
+    ensures { λ r. ⌜ ((size : ℕ) (boundaries : List ℕ) (line ratio : ℕ) (sides : Side → ClipCause) → sides before ≡ side
         → clipOf r ≡ sideClip (axisOf size ctb boundaries line ratio) x sides before) ⌝ }
 {
-    only_if((x % ctb < 3) & disables(side), side, ctb_start(ctb, x))
+    only_if((x - start < 3) & disables(side), side, start)
 }
 
 // The side right of x or below it, where x is at most 4 from it and filtering across it is disabled.
-fn side_clip_after(ctb: u32, side: ClipCause, x: u32) -> FoundClip
-    requires { ⌜ Bounded ctb x ⌝ }
-    ensures { λ r. ⌜ ((size : ℕ) (boundaries : List ℕ) (line : Bool) (ratio : ℕ) (sides : Side → ClipCause) → sides after ≡ side
+fn side_clip_after(start: u32, ctb: u32, side: ClipCause, x: u32) -> FoundClip
+    requires { ⌜ InCtb start ctb 0 x ⌝ }
+    ensures { λ r. ⌜ ((size : ℕ) (boundaries : List ℕ) (line ratio : ℕ) (sides : Side → ClipCause) → sides after ≡ side
         → clipOf r ≡ sideClip (axisOf size ctb boundaries line ratio) x sides after) ⌝ }
 {
-    only_if(
-        (ctb - x % ctb < 5) & disables(side),
-        side,
-        ctb_start(ctb, x) + ctb,
-    )
+    only_if((ctb - (x - start) < 5) & disables(side), side, start + ctb)
 }
 
-// Left of x or above it: the line-buffer boundary, a virtual boundary, or the CTB's side.
-pub fn clip_before(ctb: u32, line: bool, boundaries: &[u16], side: ClipCause, x: u32) -> FoundClip
-    requires { ⌜ Bounded ctb x ⌝ }
+// Left of x or above it, in the CTB that begins at `start`: the line-buffer boundary, a virtual boundary, or the CTB's side.
+pub fn clip_before(
+    start: u32,
+    ctb: u32,
+    line: u32,
+    boundaries: &[u16],
+    side: ClipCause,
+    x: u32,
+) -> FoundClip
+    requires { ⌜ InCtb start ctb line x ⌝ }
     ensures { λ r. ⌜ ((size ratio : ℕ) (sides : Side → ClipCause) → sides before ≡ side
         → clipOf r ≡ clip (axisOf size ctb (now (boundaries .entry)) line ratio) x sides before) ⌝ }
 {
-    let by_line = line_clip_before(ctb, line, x);
+    let by_line = line_clip_before(start, ctb, line, x);
     let by_boundary = virtual_clip(false, boundaries, x);
-    let by_side = side_clip_before(ctb, side, x);
+    let by_side = side_clip_before(start, ctb, side, x);
     or_else(by_line, or_else(by_boundary, by_side))
 }
 
-// Right of x or below it: a virtual boundary, the line-buffer boundary, or the CTB's side.
-pub fn clip_after(ctb: u32, line: bool, boundaries: &[u16], side: ClipCause, x: u32) -> FoundClip
-    requires { ⌜ Bounded ctb x ⌝ }
+// Right of x or below it, in the CTB that begins at `start`: a virtual boundary, the line-buffer boundary, or the CTB's side.
+pub fn clip_after(
+    start: u32,
+    ctb: u32,
+    line: u32,
+    boundaries: &[u16],
+    side: ClipCause,
+    x: u32,
+) -> FoundClip
+    requires { ⌜ InCtb start ctb line x ⌝ }
     ensures { λ r. ⌜ ((size ratio : ℕ) (sides : Side → ClipCause) → sides after ≡ side
         → clipOf r ≡ clip (axisOf size ctb (now (boundaries .entry)) line ratio) x sides after) ⌝ }
 {
     let by_boundary = virtual_clip(true, boundaries, x);
-    let by_line = line_clip_after(ctb, line, x);
-    let by_side = side_clip_after(ctb, side, x);
+    let by_line = line_clip_after(start, ctb, line, x);
+    let by_side = side_clip_after(start, ctb, side, x);
     or_else(by_boundary, or_else(by_line, by_side))
 }

@@ -132,7 +132,7 @@ fn class_ctb(
     let bottom = ctb_limit(picture.height, grid.ctb, ctb.row);
     let mut y = top;
     while y < bottom {
-        let rows = row_piece(picture, grid, virtual_rows, 1, sides, ctb.row, y);
+        let rows = row_piece(picture, grid, 4, virtual_rows, 1, sides, ctb.row, y);
         class_strip(
             picture,
             grid,

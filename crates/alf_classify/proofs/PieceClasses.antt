@@ -24,7 +24,7 @@ use Rattle.alf_lists.specs.Regions.{between, inRect}
 use Rattle.alf_pieces.specs.Pieces.{PieceOf, BlockPiece, CtbOf}
 use Rattle.alf_pieces.specs.Copies.{pitch, copyLength, copyAt}
 use Rattle.alf_lists.proofs.Regions.{rect-facts}
-use Rattle.alf_pieces.proofs.PieceWalk.{block-piece}
+use Rattle.alf_pieces.proofs.PieceWalk.{walk-luma, block-piece}
 use Rattle.alf_pieces.proofs.CtbPieces.{column-facts, row-facts}
 use Rattle.alf_pieces.proofs.CopySamples.{window-in}
 use Rattle.alf_pieces.proofs.CopyHolds.{copy-holds}
@@ -52,10 +52,10 @@ module _ {l : Layout} {p : Picture} {c : Ctb} {s : Sides} (ctb : CtbOf l p c s) 
     unfolding planeOf
     window-at k h =
         let width : l .picture .width / 1 ≡ p .width = rw (ctb .picture) (omega arith) in
-        copy-holds ctb 1 1 whole whole across down luma copy copy0 width copies room x y _ _ (x - columns .start + k % 10) (y - rows .start + k / 10)
+        copy-holds ctb 1 1 4 whole whole walk-luma across down luma copy copy0 width copies room x y _ _ (x - columns .start + k % 10) (y - rows .start + k / 10)
         (window-in (lumaPlane l .columns) columns x (k % 10) refl left right x4 (omega arith))
         (window-in (lumaPlane l .rows) rows y (k / 10) refl top bottom y4 (omega arith)) (omega arith) (omega arith)
-        (omega (arith, column-facts ctb 1 1 whole across .end4)) (omega (arith, row-facts ctb 1 1 whole down .end4))
+        (omega (arith, column-facts ctb 1 1 4 whole across .end4)) (omega (arith, row-facts ctb 1 1 4 whole walk-luma down .end4))
 
     window-same : classWindow l luma x y ≡ copyWindow copy (pitch columns) (x - columns .start) (y - rows .start)
     unfolding classWindow copyWindow
@@ -75,8 +75,8 @@ module _ {l : Layout} {p : Picture} {c : Ctb} {s : Sides} (ctb : CtbOf l p c s) 
   unfolding planeOf copyClassAt classAt
   class-same k t =
       let f = rect-facts (p .width / 4) (columns .start / 4) (columns .end / 4) (rows .start / 4) (rows .end / 4) k t in
-      let x = block-in (block-piece (column-facts ctb 1 1 whole across)) (k % (p .width / 4)) (f .0) (f .1) in
-      let y = block-in (block-piece (row-facts ctb 1 1 whole down)) (k / (p .width / 4)) (f .2) (f .3) in
+      let x = block-in (block-piece (column-facts ctb 1 1 4 whole across)) (k % (p .width / 4)) (f .0) (f .1) in
+      let y = block-in (block-piece (row-facts ctb 1 1 4 whole walk-luma down)) (k / (p .width / 4)) (f .2) (f .3) in
       let wide : p .width ≡ l .picture .width = rw (ctb .picture) in
       rw (x .3, y .3, y .4)
       (ap classNumber (sym (block-class _ _ (x .0) (y .0) (x .1) (x .2) (y .1) (y .2)))

@@ -35,7 +35,7 @@ pub record MapRoom (columns rows : Piece) (mapColumns left top map : ℕ) : Type
 
 -- the rows that count in the window of a block whose first row is y
 abbrev pub rowWindow : ℕ → ℕ → ℕ → WindowRows
-rowWindow height ctb y = windowRows (lineRule (axisOf height ctb [] true 1) y) ctb (y % ctb)
+rowWindow height ctb y = windowRows (lineRule (axisOf height ctb [] 4 1) y) ctb (y % ctb)
 
 -- the class and the transpose of the block of entry k of such a map, from the piece's copy
 unfoldable pub copyClassAt : Picture → ℕ → List ℕ → Piece → Piece → ℕ → ℕ → ℕ → ℕ → ℕ

@@ -25,8 +25,8 @@ module _ (l : Layout) (ok : Accepted l) (region : List ℕ) (iso : isolated l re
   held : (d e : Side) → Held l region (edge d x) (edge e y)
   unfolding planeOf inside blockInside
   held d e = record {
-    column = edge-below (l .picture .width) (regular-columns l ok 1 1 .size8) d x column;
-    row = edge-below (l .picture .height) (regular-rows l ok 1 1 .size8) e y row;
+    column = edge-below (l .picture .width) (regular-columns l ok 1 1 4 .size8) d x column;
+    row = edge-below (l .picture .height) (regular-rows l ok 1 1 4 .size8) e y row;
     position = rw (edge-block d x, edge-block e y) here;
   }
 
@@ -52,12 +52,12 @@ module _ (l : Layout) (ok : Accepted l) where
   -- of the row a column step depends on the CTB alone
   column-row : (x y v : ℕ) → y / 8 ≡ v / 8 → (d : Side) → columnStep l x y d ≡ columnStep l x v d
   unfolding columnStep planeOf
-  column-row x y v e d = rw (same-ctb (lumaPlane l .rows) (regular-rows l ok 1 1) refl y v e)
+  column-row x y v e d = rw (same-ctb (lumaPlane l .rows) (regular-rows l ok 1 1 4) refl y v e)
 
   -- and so does a row step of the column
   row-column : (x u y : ℕ) → x / 8 ≡ u / 8 → (e : Side) → rowStep l x y e ≡ rowStep l u y e
   unfolding rowStep planeOf
-  row-column x u y q e = rw (same-ctb (lumaPlane l .columns) (regular-columns l ok 1 1) refl x u q)
+  row-column x u y q e = rw (same-ctb (lumaPlane l .columns) (regular-columns l ok 1 1 4) refl x u q)
 
 module _ (l : Layout) (ok : Accepted l) (region : List ℕ) (x y : ℕ) (here : blockInside l region (x / 8) (y / 8) ≡ true)
     (block : blockStays l region (x / 8) (y / 8) ≡ true) where
@@ -110,8 +110,8 @@ module _ (l : Layout) (region : List ℕ) (accepted : isolationFault l region �
   unfolding isolated inside planeOf blocksPass blockPasses blockInside
   to-samples pass =
       at-all _ _ (λ y row. at-all _ _ (λ x column. imply (inside l region x y) _ (λ here.
-      let inRow : y / 8 < l .picture .height / 8 = omega (arith, regular-rows l ok 1 1 .size8) in
-      let inColumn : x / 8 < l .picture .width / 8 = omega (arith, regular-columns l ok 1 1 .size8) in
+      let inRow : y / 8 < l .picture .height / 8 = omega (arith, regular-rows l ok 1 1 4 .size8) in
+      let inColumn : x / 8 < l .picture .width / 8 = omega (arith, regular-columns l ok 1 1 4 .size8) in
       let passed = all-at _ _ (all-at _ _ pass (y / 8) inRow) (x / 8) inColumn in
       sample-stays l ok region x y here (implied (blockInside l region (x / 8) (y / 8)) _ passed here))))
 

@@ -64,8 +64,8 @@ module _ (l : Layout) (region : List ℕ) (accepted : isolationFault l region �
   to-all : allBelow (ctbTotal l) (λ k. ctbPasses l region (ctbOf l k)) ≡ true → blocksPass l region ≡ true
   unfolding planeOf blocksPass ctbPasses
   to-all pass =
-      let columns = regular-columns l ok 8 8 in
-      let rows = regular-rows l ok 8 8 in
+      let columns = regular-columns l ok 8 8 4 in
+      let rows = regular-rows l ok 8 8 4 in
       let side = ctbSize (l .picture) / 8 in
       at-all _ _ (λ y row. at-all _ _ (λ x column.
       let own = passes pass (record { column = x / side; row = y / side }) (ctb-in _ columns refl x column) (ctb-in _ rows refl y row) in

@@ -125,12 +125,12 @@ module _ (l : Layout) (ok : Accepted l) (c : Ctb) (x y : ℕ)
   column-step : (d e : Side) → columnStep l (edge d x) (edge e y) d
       ≡ stepOpen (l .picture .width) (ctbSize (l .picture)) (l .virtualColumns) (columnDisabled l c d) (boundary d x)
   unfolding planeOf
-  column-step d e = column-open d e ∙ block-step (lumaPlane l .columns) (regular-columns l ok 1 1) (columnDisabled l c) d x
+  column-step d e = column-open d e ∙ block-step (lumaPlane l .columns) (regular-columns l ok 1 1 4) (columnDisabled l c) d x
 
   row-step : (d e : Side) → rowStep l (edge d x) (edge e y) e
       ≡ stepOpen (l .picture .height) (ctbSize (l .picture)) (l .virtualRows) (rowDisabled l c e) (boundary e y)
   unfolding planeOf
-  row-step d e = row-open d e ∙ block-step (lumaPlane l .rows) (regular-rows l ok 1 1) (rowDisabled l c) e y
+  row-step d e = row-open d e ∙ block-step (lumaPlane l .rows) (regular-rows l ok 1 1 4) (rowDisabled l c) e y
 
   -- the slices, where both sides at the corner are crossed
   corner-test : Side → Bool
@@ -143,8 +143,8 @@ module _ (l : Layout) (ok : Accepted l) (c : Ctb) (x y : ℕ)
   corner-slice d o p =
       (λ t. same-side d t && sliceDisables l (own-ctb d d t) (luma-ctb l (next d (edge d x)) (next d (edge d y)) t))
       ∙ corner-slices l c d
-      (block-crossing (lumaPlane l .columns) (regular-columns l ok 1 1) (columnDisabled l c) d x (inColumn d) (sym (column-open d d) ∙ o))
-      (block-crossing (lumaPlane l .rows) (regular-rows l ok 1 1) (rowDisabled l c) d y (inRow d) (sym (row-open d d) ∙ p))
+      (block-crossing (lumaPlane l .columns) (regular-columns l ok 1 1 4) (columnDisabled l c) d x (inColumn d) (sym (column-open d d) ∙ o))
+      (block-crossing (lumaPlane l .rows) (regular-rows l ok 1 1 4) (rowDisabled l c) d y (inRow d) (sym (row-open d d) ∙ p))
 
   -- up-left and down-right
   corner-step : (d : Side) → not (diagonalStep l (edge d x) (edge d y) d d)
@@ -154,10 +154,10 @@ module _ (l : Layout) (ok : Accepted l) (c : Ctb) (x y : ℕ)
 
   -- an open step crosses a boundary after the first
   column-low : (d e : Side) → columnStep l (edge d x) (edge e y) d ≡ true → 0 < boundary d x
-  column-low d e o = block-low (lumaPlane l .columns) (regular-columns l ok 1 1) (columnDisabled l c) d x (sym (column-open d e) ∙ o)
+  column-low d e o = block-low (lumaPlane l .columns) (regular-columns l ok 1 1 4) (columnDisabled l c) d x (sym (column-open d e) ∙ o)
 
   row-low : (d e : Side) → rowStep l (edge d x) (edge e y) e ≡ true → 0 < boundary e y
-  row-low d e o = block-low (lumaPlane l .rows) (regular-rows l ok 1 1) (rowDisabled l c) e y (sym (row-open d e) ∙ o)
+  row-low d e o = block-low (lumaPlane l .rows) (regular-rows l ok 1 1 4) (rowDisabled l c) e y (sym (row-open d e) ∙ o)
 
   diagonal-low : (d e : Side) → diagonalStep l (edge d x) (edge e y) d e ≡ true → (0 < boundary d x) × (0 < boundary e y)
   unfolding diagonalStep
@@ -259,7 +259,7 @@ pub ctb-by-sides : (l : Layout) → Accepted l → (region : List ℕ) (c : Ctb)
     → ctbTest (l .picture) (ctbSize (l .picture)) (l .virtualColumns) (l .virtualRows) region c s ≡ ctbPasses l region c
 unfolding planeOf ctbTest rowTest ctbPasses blocksIn blocksAlong
 ctb-by-sides l ok region c s sides =
-    let ctb8 = regular-columns l ok 1 1 .ctb8 in
+    let ctb8 = regular-columns l ok 1 1 4 .ctb8 in
     all-same _ (λ j row. all-same _ (λ i column.
     block-test l ok c _ _ (edge-ctb _ (c .column) i ctb8 (omega arith)) (edge-ctb _ (c .row) j ctb8 (omega arith)) s sides region
     (block-below (blockPlane l .columns) (c .column) i column)))

@@ -30,11 +30,11 @@ module _ (l : Layout) (region : List â„•) (accepted : isolationFault l region â‰
   unfolding planeOf
   blocks-of = record {
     ctbLow = h .ctbLow;
-    ctb8 = rw (h .ctb) (regular-columns l ok 8 8 .ctb8);
+    ctb8 = rw (h .ctb) (regular-columns l ok 8 8 4 .ctb8);
     widthHigh = width-bounds (l .picture) (ok .sizes) (ok .ctbSize) .1;
-    width8 = regular-columns l ok 8 8 .size8;
+    width8 = regular-columns l ok 8 8 4 .size8;
     heightHigh = height-bounds (l .picture) (ok .sizes) (ok .ctbSize) .1;
-    height8 = regular-rows l ok 8 8 .size8;
+    height8 = regular-rows l ok 8 8 4 .size8;
     numbers = accepted-region l region accepted;
   }
 

@@ -35,6 +35,7 @@ use Rattle.alf_lists.proofs.Regions.{in-rect, rect-facts}
 use Rattle.alf_pieces.proofs.CtbPieces.{column-facts, row-facts}
 use Rattle.alf_pieces.proofs.CopyReads.{own-ctb}
 use Rattle.alf_pieces.proofs.CopySamples.{luma-in}
+use Rattle.alf_pieces.proofs.PieceWalk.{walk-luma}
 use Rattle.alf_pieces.proofs.CopyHolds.{copy-holds}
 use Rattle.alf_classify.specs.Windows.{copyWindow}
 use Rattle.alf_classify.specs.Work.{rowWindow, copyClassAt}
@@ -70,10 +71,10 @@ module _ {i : Input} {p : Picture} {c : Ctb} {sides : Sides} (ctb : CtbOf (i .la
   copies = filled ∙ ap (λ (plane : List ℕ). painted copy0 (between 0 (copyLength columns rows)) (copyAt columns rows sides plane (p .width))) (sym given)
 
   abbrev inColumns : Facts (lumaPlane l .columns) (columnSide l c) (c .column) columns
-  inColumns = column-facts ctb 1 1 whole across
+  inColumns = column-facts ctb 1 1 4 whole across
 
   abbrev inRows : Facts (lumaPlane l .rows) (rowSide l c) (c .row) rows
-  inRows = row-facts ctb 1 1 whole down
+  inRows = row-facts ctb 1 1 4 whole walk-luma down
 
   -- the sample at (x, y) of the piece
   module _ (x y : ℕ) (left : columns .start ≤ x) (right : x < columns .end) (top : rows .start ≤ y) (bottom : y < rows .end) where
@@ -90,7 +91,7 @@ module _ {i : Input} {p : Picture} {c : Ctb} {sides : Sides} (ctb : CtbOf (i .la
     neighbour dx j u v hx hj eu ev low high =
         let wide : l .picture .width / 1 ≡ p .width = rw (ctb .picture) (div-one (p .width)) in
         let place : j * pitch columns + (s + dx) ≡ j * pitch columns + s + dx = omega arith in
-        copy-holds ctb 1 1 whole whole across down (i .luma) copy copy0 wide copies room x y u v (s + dx) j
+        copy-holds ctb 1 1 4 whole whole walk-luma across down (i .luma) copy copy0 wide copies room x y u v (s + dx) j
         (luma-in (lumaPlane l .columns) columns x u refl left right (omega arith) (omega arith))
         (luma-in (lumaPlane l .rows) rows y v refl top bottom low high) (omega arith) ev (omega arith) (omega arith)
         ∙ ap (λ (k : ℕ). getD copy k 0) place
@@ -147,7 +148,7 @@ module _ {i : Input} {p : Picture} {c : Ctb} {sides : Sides} (ctb : CtbOf (i .la
           (tapSum 12 (current copy starts s) (ownCoeff filters class) (ownClip filters class) (plusSamples copy starts s) (minusSamples copy starts s))
       unfolding lumaWith planeOf
       with-class class range =
-          let mine : ctbAt (lumaPlane l) x y ≡ c = own-ctb l c sides (ctb .sides) 1 1 columns rows inColumns inRows x y x y
+          let mine : ctbAt (lumaPlane l) x y ≡ c = own-ctb l c sides (ctb .sides) 1 1 4 columns rows inColumns inRows x y x y
           (luma-in (lumaPlane l .columns) columns x x refl left right (omega arith) (omega arith))
           (luma-in (lumaPlane l .rows) rows y y refl top bottom (omega arith) (omega arith)) in
           let depth : l .picture .«bit_depth» ≡ p .«bit_depth» = ap (λ (q : Picture). q .«bit_depth») (ctb .picture) in

@@ -30,7 +30,7 @@ use Rattle.alf_luma.specs.Filters.{Places}
 
 -- Table 45 at row y
 abbrev pub rowsAt : ℕ → ℕ → ℕ → LumaRows
-rowsAt height ctb y = lumaRows (lineRule (axisOf height ctb [] true 1) y) (ctb - y % ctb)
+rowsAt height ctb y = lumaRows (lineRule (axisOf height ctb [] 4 1) y) (ctb - y % ctb)
 
 -- the rows of the copy that the taps of the piece's row t read; the copy begins 3 rows before the piece
 abbrev pub startsOf : ℕ → ℕ → LumaRows → Starts

@@ -12,14 +12,16 @@ use alf_spec::Picture;
 pub fn sub_width(picture: Picture) -> u32
     ensures { λ r. ⌜ (r ≡ subWidth picture) × (0 < r) ⌝ }
 {
-    2
+    let format = picture.chroma_format;
+    if (1 <= format) & (format <= 2) { 2 } else { 1 }
 }
 
 // SubHeightC
 pub fn sub_height(picture: Picture) -> u32
     ensures { λ r. ⌜ (r ≡ subHeight picture) × (0 < r) ⌝ }
 {
-    2
+    let format = picture.chroma_format;
+    if format == 1 { 2 } else { 1 }
 }
 
 // CtbSizeY

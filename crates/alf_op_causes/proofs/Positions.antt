@@ -1,7 +1,6 @@
 -- A luma position of an accepted picture: its CTB is in the grid, and the rule along an axis as code has it is that of the luma plane. Assumes nothing.
-use mathlib.Core.Path.{_≡_, sym, _∙_}
-use mathlib.Core.Bool.{true, false}
-use Prim.Native.Nat.{ℕ, suc, _+_, _-_, _/_, _≤_, _<_}
+use mathlib.Core.Path.{_≡_, refl, sym, _∙_}
+use Prim.Native.Nat.{ℕ, suc, _+_, _-_, _*_, _/_, _≤_, _<_}
 use native.Mathlib.Nat.{mul-one, div-mul-le-self, le-div-iff-mul-le}
 use native.Mathlib.Omega.{arith}
 use Rattle.alf_spec.specs.declared.ClipCause.{ClipCause}
@@ -15,7 +14,7 @@ use Rattle.alf_spec.specs.Causes.{columnCause, rowCause, causesAt}
 use Rattle.alf_spec.proofs.Accepted.{Accepted}
 use Rattle.alf_math.specs.Grids.{ctbsAlong, GridOf}
 use Rattle.alf_math.proofs.Grids.{width-bounds, height-bounds}
-use Rattle.alf_boundary.specs.Clips.{axisOf, Bounded}
+use Rattle.alf_boundary.specs.Clips.{axisOf, InCtb}
 use Rattle.alf_boundary.specs.Tables.{TablesOf, SidesOf}
 use Rattle.alf_boundary.proofs.Tables.{tables-of}
 
@@ -35,12 +34,12 @@ module _ (l : Layout) (ok : Accepted l) {g : Grid} (h : GridOf (l .picture) g) (
       let positive : 0 < g .ctb = omega (arith, h .ctbLow) in
       (h, tables-of l g h ok, in-along _ _ x positive (rw (h .ctb) (h .columns)) column, in-along _ _ y positive (rw (h .ctb) (h .rows)) row)
 
-  pub bounded : Bounded (g .ctb) x × Bounded (g .ctb) y
+  pub bounded : InCtb (x / g .ctb * g .ctb) (g .ctb) 0 x × InCtb (y / g .ctb * g .ctb) (g .ctb) 4 y
   bounded =
       let wide = width-bounds (l .picture) (ok .sizes) (ok .ctbSize) in
       let high = height-bounds (l .picture) (ok .sizes) (ok .ctbSize) in
       let low : 4 ≤ g .ctb = omega (arith, h .ctbLow) in
-      ((low, h .ctbHigh, omega arith), (low, h .ctbHigh, omega arith))
+      ((low, h .ctbHigh, omega arith, omega arith, refl), (low, h .ctbHigh, omega arith, omega arith, refl))
 
   own-is : own ≡ ctbAt (lumaPlane l) x y
   unfolding planeOf
@@ -51,24 +50,24 @@ module _ (l : Layout) (ok : Accepted l) {g : Grid} (h : GridOf (l .picture) g) (
   Along a u d k r = (sides : Side → ClipCause) → sides d ≡ k → r ≡ causeOf (clip a u sides d)
 
   module _ (d : Side) {k r : ClipCause} where
-    column-cause : k ≡ columnSide l own d → Along (axisOf (l .picture .width) (g .ctb) (l .virtualColumns) false 1) x d k r → r ≡ columnCause l x y d
+    column-cause : k ≡ columnSide l own d → Along (axisOf (l .picture .width) (g .ctb) (l .virtualColumns) 0 1) x d k r → r ≡ columnCause l x y d
     unfolding columnCause planeOf
     column-cause e f =
         f (columnSide l own) (sym e)
-        ∙ (λ t. causeOf (clip (axisOf (l .picture .width) (h .ctb t) (l .virtualColumns) false 1) (sym (mul-one x) t) (columnSide l (own-is t)) d))
+        ∙ (λ t. causeOf (clip (axisOf (l .picture .width) (h .ctb t) (l .virtualColumns) 0 1) (sym (mul-one x) t) (columnSide l (own-is t)) d))
 
-    row-cause : k ≡ rowSide l own d → Along (axisOf (l .picture .height) (g .ctb) (l .virtualRows) true 1) y d k r → r ≡ rowCause l x y d
+    row-cause : k ≡ rowSide l own d → Along (axisOf (l .picture .height) (g .ctb) (l .virtualRows) 4 1) y d k r → r ≡ rowCause l x y d
     unfolding rowCause planeOf
     row-cause e f =
         f (rowSide l own) (sym e)
-        ∙ (λ t. causeOf (clip (axisOf (l .picture .height) (h .ctb t) (l .virtualRows) true 1) (sym (mul-one y) t) (rowSide l (own-is t)) d))
+        ∙ (λ t. causeOf (clip (axisOf (l .picture .height) (h .ctb t) (l .virtualRows) 4 1) (sym (mul-one y) t) (rowSide l (own-is t)) d))
 
   -- the causes that code finds, from what it knows of the CTB's sides
   pub causes-are : {s : Sides} → SidesOf l own s → {top bottom left right : ClipCause}
-      → Along (axisOf (l .picture .height) (g .ctb) (l .virtualRows) true 1) y before (s .top) top
-      → Along (axisOf (l .picture .height) (g .ctb) (l .virtualRows) true 1) y after (s .bottom) bottom
-      → Along (axisOf (l .picture .width) (g .ctb) (l .virtualColumns) false 1) x before (s .left) left
-      → Along (axisOf (l .picture .width) (g .ctb) (l .virtualColumns) false 1) x after (s .right) right
+      → Along (axisOf (l .picture .height) (g .ctb) (l .virtualRows) 4 1) y before (s .top) top
+      → Along (axisOf (l .picture .height) (g .ctb) (l .virtualRows) 4 1) y after (s .bottom) bottom
+      → Along (axisOf (l .picture .width) (g .ctb) (l .virtualColumns) 0 1) x before (s .left) left
+      → Along (axisOf (l .picture .width) (g .ctb) (l .virtualColumns) 0 1) x after (s .right) right
       → record { top = top; bottom = bottom; left = left; right = right } ≡ causesAt l x y
   unfolding causesAt
   causes-are sides t b l r = λ i. record {

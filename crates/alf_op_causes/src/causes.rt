@@ -8,7 +8,7 @@ ghost use Rattle.alf_spec.specs.Geometry.{Side, before, after};
 ghost use Rattle.alf_spec.specs.Boundary.{clip, causeOf};
 ghost use Rattle.alf_spec.specs.Faults.{causesFault};
 ghost use Rattle.alf_spec.specs.Causes.{causesAt};
-ghost use Rattle.alf_boundary.specs.Clips.{axisOf, Bounded};
+ghost use Rattle.alf_boundary.specs.Clips.{axisOf, InCtb};
 use alf_boundary::clips::cause_of;
 use alf_boundary::clips::clip_after;
 use alf_boundary::clips::clip_before;
@@ -20,24 +20,38 @@ use alf_spec::Picture;
 use alf_spec::SideCauses;
 
 // The cause left of x or above it.
-fn cause_before(ctb: u32, line: bool, boundaries: &[u16], side: ClipCause, x: u32) -> ClipCause
-    requires { ⌜ Bounded ctb x ⌝ }
+fn cause_before(
+    start: u32,
+    ctb: u32,
+    line: u32,
+    boundaries: &[u16],
+    side: ClipCause,
+    x: u32,
+) -> ClipCause
+    requires { ⌜ InCtb start ctb line x ⌝ }
     ensures { λ r. ⌜ ((size ratio : ℕ) (sides : Side → ClipCause) → sides before ≡ side
         → r ≡ causeOf (clip (axisOf size ctb (now (boundaries .entry)) line ratio) x sides before)) ⌝ }
 {
-    cause_of(clip_before(ctb, line, boundaries, side, x))
+    cause_of(clip_before(start, ctb, line, boundaries, side, x))
 }
 
 // The cause right of x or below it.
-fn cause_after(ctb: u32, line: bool, boundaries: &[u16], side: ClipCause, x: u32) -> ClipCause
-    requires { ⌜ Bounded ctb x ⌝ }
+fn cause_after(
+    start: u32,
+    ctb: u32,
+    line: u32,
+    boundaries: &[u16],
+    side: ClipCause,
+    x: u32,
+) -> ClipCause
+    requires { ⌜ InCtb start ctb line x ⌝ }
     ensures { λ r. ⌜ ((size ratio : ℕ) (sides : Side → ClipCause) → sides after ≡ side
         → r ≡ causeOf (clip (axisOf size ctb (now (boundaries .entry)) line ratio) x sides after)) ⌝ }
 {
-    cause_of(clip_after(ctb, line, boundaries, side, x))
+    cause_of(clip_after(start, ctb, line, boundaries, side, x))
 }
 
-// The four causes; the layout and the position are accepted already.
+// The four causes; the layout and the position are accepted already. The line lies 4 rows above a CTB's bottom; columns have none.
 pub fn causes_at(
     picture: Picture,
     virtual_columns: &[u16],
@@ -74,10 +88,12 @@ pub fn causes_at(
     let bottom = sides.bottom;
     let left = sides.left;
     let right = sides.right;
+    let first_column = ctb.column * grid.ctb;
+    let first_row = ctb.row * grid.ctb;
     SideCauses {
-        top: cause_before(grid.ctb, true, virtual_rows, top, y),
-        bottom: cause_after(grid.ctb, true, virtual_rows, bottom, y),
-        left: cause_before(grid.ctb, false, virtual_columns, left, x),
-        right: cause_after(grid.ctb, false, virtual_columns, right, x),
+        top: cause_before(first_row, grid.ctb, 4, virtual_rows, top, y),
+        bottom: cause_after(first_row, grid.ctb, 4, virtual_rows, bottom, y),
+        left: cause_before(first_column, grid.ctb, 0, virtual_columns, left, x),
+        right: cause_after(first_column, grid.ctb, 0, virtual_columns, right, x),
     }
 }

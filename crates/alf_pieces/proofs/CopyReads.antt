@@ -98,12 +98,12 @@ module _ (n : ℕ) (piece : Piece) (numbers : PieceIn n piece) (p : ℕ) (ends :
   corner-moves false false apart = refl
 
 -- the plane of a layout with these ratios to luma, and a piece of its columns and one of its rows, both of the CTB c
-module _ (l : Layout) (c : Ctb) (s : Sides) (sides : SidesOf l c s) (columnRatio rowRatio : ℕ) (columns rows : Piece)
-    (across : Facts (planeOf l columnRatio rowRatio .columns) (columnSide l c) (c .column) columns)
-    (down : Facts (planeOf l columnRatio rowRatio .rows) (rowSide l c) (c .row) rows) where
+module _ (l : Layout) (c : Ctb) (s : Sides) (sides : SidesOf l c s) (columnRatio rowRatio line : ℕ) (columns rows : Piece)
+    (across : Facts (planeOf l columnRatio rowRatio line .columns) (columnSide l c) (c .column) columns)
+    (down : Facts (planeOf l columnRatio rowRatio line .rows) (rowSide l c) (c .row) rows) where
   -- the plane
   abbrev g : Plane
-  g = planeOf l columnRatio rowRatio
+  g = planeOf l columnRatio rowRatio line
 
   -- a sample of the piece, and its neighbour
   module _ (x y p q : ℕ) (in-columns : InPiece (g .columns) columns x p) (in-rows : InPiece (g .rows) rows y q) where
@@ -111,7 +111,7 @@ module _ (l : Layout) (c : Ctb) (s : Sides) (sides : SidesOf l c s) (columnRatio
     abbrev v : ℕ
     v = held (rows .lowest) (rows .limit) q
 
-    pub own-ctb : ctbAt (planeOf l columnRatio rowRatio) x y ≡ c
+    pub own-ctb : ctbAt (planeOf l columnRatio rowRatio line) x y ≡ c
     own-ctb = rw (ctb-is (g .columns) _ (c .column) columns across x p in-columns, ctb-is (g .rows) _ (c .row) rows down y q in-rows)
 
     column-clip : columnClip l g x y ≡ clipPosition (g .columns) (lumaPosition (g .columns) x) (columnSide l c)
@@ -156,9 +156,9 @@ module _ (l : Layout) (c : Ctb) (s : Sides) (sides : SidesOf l c s) (columnRatio
 
   -- the sample at (x, y) of the piece, and its neighbour at (p, q), which stands at column i and row j of the copy
   pub copy-reads : (x y p q i j : ℕ)
-      → InPiece (planeOf l columnRatio rowRatio .columns) columns x p → InPiece (planeOf l columnRatio rowRatio .rows) rows y q
+      → InPiece (planeOf l columnRatio rowRatio line .columns) columns x p → InPiece (planeOf l columnRatio rowRatio line .rows) rows y q
       → p ≡ columns .start + i - 3 → q ≡ rows .start + j - 3 → (plane : List ℕ)
-      → copied columns rows s plane (samples (planeOf l columnRatio rowRatio .columns)) i j ≡ read l (planeOf l columnRatio rowRatio) x y plane p q
+      → copied columns rows s plane (samples (planeOf l columnRatio rowRatio line .columns)) i j ≡ read l (planeOf l columnRatio rowRatio line) x y plane p q
   unfolding copied copyRow copyColumn read
   copy-reads x y p q i j inColumns inRows ep eq plane =
       rw (← ep, ← eq)

@@ -1,6 +1,6 @@
 -- The axes of a CTB of an accepted layout, for every plane, and its pieces along them. Assumes nothing.
 use mathlib.Core.Path.{_≡_, refl}
-use mathlib.Core.Bool.{true, false}
+use mathlib.Core.Bool.{true}
 use mathlib.Core.List.{List}
 use Prim.Native.Nat.{ℕ, _≤_}
 use Rattle.alf_spec.specs.declared.Ctb.{Ctb}
@@ -19,9 +19,9 @@ use Rattle.alf_math.proofs.Grids.{ctb-bounds}
 use Rattle.alf_boundary.specs.Clips.{axisOf}
 use Rattle.alf_boundary.specs.Tables.{SidesOf}
 use Rattle.alf_pieces.specs.declared.pieces.Piece.{Piece}
-use Rattle.alf_pieces.specs.Pieces.{either, PieceOf, CtbOf}
+use Rattle.alf_pieces.specs.Pieces.{either, WalkLine, PieceOf, CtbOf}
 use Rattle.alf_pieces.proofs.PieceFacts.{Facts, piece-facts}
-use Rattle.alf_pieces.proofs.PieceWalk.{same-piece}
+use Rattle.alf_pieces.proofs.PieceWalk.{walk-none, same-piece}
 
 pub ctb-accepted : {l : Layout} → Accepted l → {c : Ctb} {s : Sides} → SidesOf l c s → CtbOf l (l .picture) c s
 ctb-accepted ok sides = record { picture = refl; sizes = ok .sizes; ctbSize = ok .ctbSize; virtualBoundaries = ok .virtualBoundaries; sides = sides }
@@ -41,35 +41,35 @@ module _ {l : Layout} {p : Picture} {c : Ctb} {s : Sides} (ctb : CtbOf l p c s) 
   small = rw (ctb .picture) (ctb-bounds p (ctb .sizes) (ctb .ctbSize) .1)
 
   -- in a plane with these ratios to luma
-  module _ (columnRatio rowRatio : ℕ) where
-    regular-across : Regular (planeOf l columnRatio rowRatio .columns)
+  module _ (columnRatio rowRatio line : ℕ) where
+    regular-across : Regular (planeOf l columnRatio rowRatio line .columns)
     unfolding planeOf
-    regular-across = regular (l .picture) log2 (l .picture .width) (l .virtualColumns) false columnRatio (sizes .0) (boundaries .0)
+    regular-across = regular (l .picture) log2 (l .picture .width) (l .virtualColumns) 0 columnRatio (sizes .0) (boundaries .0)
 
-    regular-down : Regular (planeOf l columnRatio rowRatio .rows)
+    pub regular-down : Regular (planeOf l columnRatio rowRatio line .rows)
     unfolding planeOf
-    regular-down = regular (l .picture) log2 (l .picture .height) (l .virtualRows) true rowRatio (sizes .1) (boundaries .1)
+    regular-down = regular (l .picture) log2 (l .picture .height) (l .virtualRows) line rowRatio (sizes .1) (boundaries .1)
 
-    pub column-facts : Ratio columnRatio → {columns : Piece} → PieceOf (planeOf l columnRatio rowRatio .columns) (columnSide l c) (c .column) columns
-        → Facts (planeOf l columnRatio rowRatio .columns) (columnSide l c) (c .column) columns
+    pub column-facts : Ratio columnRatio → {columns : Piece} → PieceOf (planeOf l columnRatio rowRatio line .columns) (columnSide l c) (c .column) columns
+        → Facts (planeOf l columnRatio rowRatio line .columns) (columnSide l c) (c .column) columns
     unfolding planeOf
-    column-facts ratio h = piece-facts _ regular-across ratio small _ _ _ h
+    column-facts ratio h = piece-facts _ regular-across walk-none ratio small _ _ _ h
 
-    pub row-facts : Ratio rowRatio → {rows : Piece} → PieceOf (planeOf l columnRatio rowRatio .rows) (rowSide l c) (c .row) rows
-        → Facts (planeOf l columnRatio rowRatio .rows) (rowSide l c) (c .row) rows
+    pub row-facts : Ratio rowRatio → WalkLine line → {rows : Piece} → PieceOf (planeOf l columnRatio rowRatio line .rows) (rowSide l c) (c .row) rows
+        → Facts (planeOf l columnRatio rowRatio line .rows) (rowSide l c) (c .row) rows
     unfolding planeOf
-    row-facts ratio h = piece-facts _ regular-down ratio small _ _ _ h
+    row-facts ratio walk h = piece-facts _ regular-down walk ratio small _ _ _ h
 
     -- a piece that code finds is the layout's
     module _ {g : Grid} (grid : GridOf p g) where
       pub column-piece : {list : List ℕ} {columns : Piece} → l .virtualColumns ≡ list
-          → PieceOf (axisOf (p .width) (g .ctb) list false columnRatio) (either (s .left) (s .right)) (c .column) columns
-          → PieceOf (planeOf l columnRatio rowRatio .columns) (columnSide l c) (c .column) columns
+          → PieceOf (axisOf (p .width) (g .ctb) list 0 columnRatio) (either (s .left) (s .right)) (c .column) columns
+          → PieceOf (planeOf l columnRatio rowRatio line .columns) (columnSide l c) (c .column) columns
       unfolding planeOf
       column-piece e h = same-piece (rw (grid .ctb, ctb .picture, e)) (ctb .sides .left) (ctb .sides .right) h
 
       pub row-piece : {list : List ℕ} {rows : Piece} → l .virtualRows ≡ list
-          → PieceOf (axisOf (p .height) (g .ctb) list true rowRatio) (either (s .top) (s .bottom)) (c .row) rows
-          → PieceOf (planeOf l columnRatio rowRatio .rows) (rowSide l c) (c .row) rows
+          → PieceOf (axisOf (p .height) (g .ctb) list line rowRatio) (either (s .top) (s .bottom)) (c .row) rows
+          → PieceOf (planeOf l columnRatio rowRatio line .rows) (rowSide l c) (c .row) rows
       unfolding planeOf
       row-piece e h = same-piece (rw (grid .ctb, ctb .picture, e)) (ctb .sides .top) (ctb .sides .bottom) h

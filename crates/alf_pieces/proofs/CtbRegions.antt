@@ -65,22 +65,22 @@ module _ (a : Axis) (ok : Regular a) (q : ℕ) where
 
 -- ---- in a plane with these ratios to luma
 
-module _ (l : Layout) (ok : Accepted l) (columnRatio rowRatio : ℕ) (wholeColumns : Whole columnRatio) (wholeRows : Whole rowRatio) where
+module _ (l : Layout) (ok : Accepted l) (columnRatio rowRatio line : ℕ) (wholeColumns : Whole columnRatio) (wholeRows : Whole rowRatio) where
   abbrev plane : Plane
-  plane = planeOf l columnRatio rowRatio
+  plane = planeOf l columnRatio rowRatio line
 
   -- the sample at index i
   module _ (i : ℕ) (h : i < planeLength plane) where
-    pub column-in : let g = planeOf l columnRatio rowRatio in lumaPosition (g .columns) (columnOf g i) / g .columns .ctb < ctbColumns l
+    pub column-in : let g = planeOf l columnRatio rowRatio line in lumaPosition (g .columns) (columnOf g i) / g .columns .ctb < ctbColumns l
     unfolding planeOf
-    column-in = ctb-below (plane .columns) (regular-columns l ok columnRatio rowRatio) _ (lt-own columnRatio _ _ (column-below plane i h))
+    column-in = ctb-below (plane .columns) (regular-columns l ok columnRatio rowRatio line) _ (lt-own columnRatio _ _ (column-below plane i h))
 
-    pub row-in : let g = planeOf l columnRatio rowRatio in lumaPosition (g .rows) (rowOf g i) / g .rows .ctb < ctbRows l
+    pub row-in : let g = planeOf l columnRatio rowRatio line in lumaPosition (g .rows) (rowOf g i) / g .rows .ctb < ctbRows l
     unfolding planeOf
-    row-in = ctb-below (plane .rows) (regular-rows l ok columnRatio rowRatio) _ (lt-own rowRatio _ _ (row-below plane i h))
+    row-in = ctb-below (plane .rows) (regular-rows l ok columnRatio rowRatio line) _ (lt-own rowRatio _ _ (row-below plane i h))
 
     -- it lies in one of the picture's CTBs
-    pub every-ctb : beforeCtb l (planeOf l columnRatio rowRatio) (ctbTotal l) i ≡ true
+    pub every-ctb : beforeCtb l (planeOf l columnRatio rowRatio line) (ctbTotal l) i ≡ true
     unfolding beforeCtb
     every-ctb = lt-ltb _ _ (address-below l (ctbAt plane (columnOf plane i) (rowOf plane i)) column-in row-in)
 
@@ -102,8 +102,8 @@ module _ (l : Layout) (ok : Accepted l) (columnRatio rowRatio : ℕ) (wholeColum
           sym (place-column (ctbColumns l) (ctbRows l) (own .column) (own .row) column-in row-in) ∙ ap (λ (n : ℕ). n % ctbColumns l) e in
           let row : own .row ≡ k / ctbColumns l =
           sym (place-row (ctbColumns l) (ctbRows l) (own .column) (own .row) column-in row-in) ∙ ap (λ (n : ℕ). n / ctbColumns l) e in
-          let across = ctb-range (plane .columns) (regular-columns l ok columnRatio rowRatio) _ wholeColumns _ (column-below plane i h) column in
-          let down = ctb-range (plane .rows) (regular-rows l ok columnRatio rowRatio) _ wholeRows _ (row-below plane i h) row in
+          let across = ctb-range (plane .columns) (regular-columns l ok columnRatio rowRatio line) _ wholeColumns _ (column-below plane i h) column in
+          let down = ctb-range (plane .rows) (regular-rows l ok columnRatio rowRatio line) _ wholeRows _ (row-below plane i h) row in
           in-rect _ _ _ _ _ i (across .0, across .1, down .0, down .1)
 
       from-rectangle : rectangle i ≡ true → address l own ≡ k
@@ -111,8 +111,8 @@ module _ (l : Layout) (ok : Accepted l) (columnRatio rowRatio : ℕ) (wholeColum
       from-rectangle t =
           let f = rect-facts _ _ _ _ _ i t in
           let column : own .column ≡ k % ctbColumns l =
-          range-ctb (plane .columns) (regular-columns l ok columnRatio rowRatio) _ wholeColumns _ (f .0) (f .1) in
-          let row : own .row ≡ k / ctbColumns l = range-ctb (plane .rows) (regular-rows l ok columnRatio rowRatio) _ wholeRows _ (f .2) (f .3) in
+          range-ctb (plane .columns) (regular-columns l ok columnRatio rowRatio line) _ wholeColumns _ (f .0) (f .1) in
+          let row : own .row ≡ k / ctbColumns l = range-ctb (plane .rows) (regular-rows l ok columnRatio rowRatio line) _ wholeRows _ (f .2) (f .3) in
           rw (column, row) (div-add-mod' k (ctbColumns l))
 
       ctb-rectangle : ofCtb l plane k i ≡ rectangle i

@@ -16,8 +16,8 @@ use Rattle.alf_spec.proofs.Axes.{Regular, ctb-of}
 use Rattle.alf_spec.proofs.IsolatedRegions.Reach.{Reach}
 use Rattle.alf_spec.proofs.IsolatedRegions.PastCtb.{Between}
 use Rattle.alf_spec.proofs.IsolatedRegions.ClipPositions.{Ends, stops, runs, Near, bound, Rule, line-rule, virtual-rule, side-rule, Found, Clear, clip-found}
-use Rattle.alf_pieces.specs.Pieces.{ctbLimit, Begins, at-side, at-boundary, at-line}
-use Rattle.alf_pieces.proofs.PieceEnds.{Inner, Span, bound-at, line-at, start4, end4}
+use Rattle.alf_pieces.specs.Pieces.{WalkLine, ctbLimit, Begins, at-side, at-boundary, at-line}
+use Rattle.alf_pieces.proofs.PieceEnds.{walk-fits, found-first, Inner, Span, bound-at, line-at, start4, end4}
 
 -- the end of a piece on that side
 abbrev pub tip : Side → ℕ → ℕ → ℕ
@@ -46,7 +46,7 @@ pub data Meets (d : Side) (b x u : ℕ) : Option ℕ → Option ℕ → Type 0 w
   open-end : Meets d b x u none none
   far-end : ¬ Between d x b u → Meets d b x u none (some b)
 
-module _ (a : Axis) (ok : Regular a) (side : Side → ClipCause) (q lo hi : ℕ) (s : Span a q lo hi) where
+module _ (a : Axis) (ok : Regular a) (walk : WalkLine (a .line)) (side : Side → ClipCause) (q lo hi : ℕ) (s : Span a q lo hi) where
   -- a sample of the piece
   abbrev Within : ℕ → Type 0
   Within x = (lo ≤ x) × (x < hi)
@@ -86,9 +86,9 @@ module _ (a : Axis) (ok : Regular a) (side : Side → ClipCause) (q lo hi : ℕ)
     -- so it is the end
     is-tip : (d : Side) (e : ℕ) → Found a x side d e → e ≡ tip d lo hi
     is-tip before e f =
-        ⊎-elim (λ l. omega (arith, f .first, start4 a ok q lo hi s)) (λ l. absurd (omega (arith, f .first))) (outside before e (f .rule))
+        ⊎-elim (λ l. omega (arith, found-first a ok walk x before e f, start4 a ok walk q lo hi s)) (λ l. absurd (omega (arith, found-first a ok walk x before e f))) (outside before e (f .rule))
     is-tip after e f =
-        ⊎-elim (λ l. absurd (omega (arith, f .first))) (λ l. omega (arith, f .first, end4 a ok q lo hi s)) (outside after e (f .rule))
+        ⊎-elim (λ l. absurd (omega (arith, found-first a ok walk x after e f))) (λ l. omega (arith, found-first a ok walk x after e f, end4 a ok walk q lo hi s)) (outside after e (f .rule))
 
     tip-rule : (d : Side) (e : ℕ) → Found a x side d e → Rule a x side d (tip d lo hi)
     tip-rule d e f = subst (Rule a x side d) (is-tip d e f) (f .rule)
@@ -100,7 +100,7 @@ module _ (a : Axis) (ok : Regular a) (side : Side → ClipCause) (q lo hi : ℕ)
   near-outer after = near-last (s .filled)
 
   pub at-tip : (d : Side) → AtTip (tip d lo hi) (clipPosition a (outermost d lo hi) side d)
-  at-tip d = by _ (clip-found a ok (outermost d lo hi) side d)
+  at-tip d = by _ (clip-found a ok (outermost d lo hi) (walk-fits walk) side d)
     where
       by : (o : Option ℕ) → Ends (Found a (outermost d lo hi) side d) (Clear a (outermost d lo hi) side d) o → AtTip (tip d lo hi) o
       by _ (stops f) = subst (λ (e : ℕ). AtTip (tip d lo hi) (some e)) (sym (is-tip (outermost d lo hi) (outer-within d) d _ f)) cut
@@ -108,7 +108,7 @@ module _ (a : Axis) (ok : Regular a) (side : Side → ClipCause) (q lo hi : ℕ)
 
   -- where it has no clip position, the piece ends with the CTB, or with the picture
   pub open-bound : (d : Side) → isNone (clipPosition a (outermost d lo hi) side d) ≡ true → tip d lo hi < a .size → tip d lo hi ≡ bound a d lo
-  open-bound d none-there inPicture = by _ (clip-found a ok (outermost d lo hi) side d) none-there
+  open-bound d none-there inPicture = by _ (clip-found a ok (outermost d lo hi) (walk-fits walk) side d) none-there
     where
       start : lo / a .ctb ≡ q
       start = place lo (omega (arith, s .filled))
@@ -138,8 +138,8 @@ module _ (a : Axis) (ok : Regular a) (side : Side → ClipCause) (q lo hi : ℕ)
 
   module _ (x : ℕ) (w : Within x) (u : ℕ) (r : Reach x u) where
     near-tip : (d : Side) → Between d x (tip d lo hi) u → Near d x (tip d lo hi)
-    near-tip before h = (h .0, r .before lo (start4 a ok q lo hi s) (h .1) (h .0))
-    near-tip after h = (h .0, r .after hi (end4 a ok q lo hi s) (h .0) (h .1))
+    near-tip before h = (h .0, r .before lo (start4 a ok walk q lo hi s) (h .1) (h .0))
+    near-tip after h = (h .0, r .after hi (end4 a ok walk q lo hi s) (h .0) (h .1))
 
     meet : (d : Side) (o o′ : Option ℕ) → Ends (Found a x side d) (Clear a x side d) o
         → Ends (Found a (outermost d lo hi) side d) (Clear a (outermost d lo hi) side d) o′ → Meets d (tip d lo hi) x u o o′
@@ -156,4 +156,4 @@ module _ (a : Axis) (ok : Regular a) (side : Side → ClipCause) (q lo hi : ℕ)
     meet d _ _ (runs n) (runs m) = open-end
 
     pub meets : (d : Side) → Meets d (tip d lo hi) x u (clipPosition a x side d) (clipPosition a (outermost d lo hi) side d)
-    meets d = meet d _ _ (clip-found a ok x side d) (clip-found a ok (outermost d lo hi) side d)
+    meets d = meet d _ _ (clip-found a ok x (walk-fits walk) side d) (clip-found a ok (outermost d lo hi) (walk-fits walk) side d)

@@ -8,18 +8,20 @@ use mathlib.Core.Option.{Option}
 use Prim.Native.Nat.{ℕ, zero, suc, _+_, _-_, _*_, _/_, _%_, _≤_, _<_}
 use native.Mathlib.Decide.{decLe}
 use native.Mathlib.Omega.{arith}
+use borrow.Author.Tests.{ltb-true}
 use Rattle.alf_spec.specs.declared.ClipCause.{ClipCause}
-use Rattle.alf_spec.specs.Geometry.{Side, before, after, Axis}
+use Rattle.alf_spec.specs.Geometry.{Side, before, after, Axis, hasLine}
 use Rattle.alf_spec.specs.Boundary.{linePosition}
 use Rattle.alf_spec.specs.Padding.{isNone}
 use Rattle.alf_spec.proofs.Lists.{mem-elem, elem-mem}
 use Rattle.alf_spec.proofs.Axes.{Regular, ctb-of}
-use Rattle.alf_spec.proofs.IsolatedRegions.ClipPositions.{Ends, stops, runs, bound, bound4, Rule, line-rule, virtual-rule, side-rule, Found, Clear, clip-found}
-use Rattle.alf_pieces.specs.Pieces.{ctbLimit, ctbLine, runEnd, pieceEnd, Begins, at-side, at-boundary, at-line}
+use Rattle.alf_spec.proofs.IsolatedRegions.Ratios.{LineFits}
+use Rattle.alf_spec.proofs.IsolatedRegions.ClipPositions.{Ends, stops, runs, Near, Stop, bound, bound8, Rule, line-rule, virtual-rule, side-rule, Found, Clear, clip-found}
+use Rattle.alf_pieces.specs.Pieces.{WalkLine, ctbLimit, ctbLine, runEnd, pieceEnd, Begins, at-side, at-boundary, at-line}
 
 -- where a piece may end within the CTB at place q: at its line-buffer boundary, at a virtual boundary
 abbrev pub Inner : Axis → ℕ → ℕ → Type 0
-Inner a q b = ((a .hasLine ≡ true) × (b ≡ ctbLine a q)) ⊎ List·Memᴰ b (a .virtualBoundaries)
+Inner a q b = ((hasLine a ≡ true) × (b ≡ ctbLine a q)) ⊎ List·Memᴰ b (a .virtualBoundaries)
 
 -- a piece of the CTB at place q, from lo up to hi
 pub record Span (a : Axis) (q lo hi : ℕ) : Type 0 where
@@ -41,17 +43,42 @@ bound-at a before q x e = ap (λ (p : ℕ). p * a .ctb) e
 bound-at a after q x e = ap (λ (p : ℕ). p * a .ctb + a .ctb) e
 
 pub line-at : (a : Axis) (q x : ℕ) → x / a .ctb ≡ q → linePosition a x ≡ ctbLine a q
-line-at a q x e = ap (λ (p : ℕ). p * a .ctb + (a .ctb - 4)) e
+line-at a q x e = ap (λ (p : ℕ). p * a .ctb + (a .ctb - a .line)) e
 
 -- ---- multiples of 4
 
+pub walk-fits : {n : ℕ} → WalkLine n → LineFits n
+walk-fits w = (omega (arith, w .0), w .1)
+
+-- e is the first multiple of 4 on that side of x
+abbrev pub First : Side → ℕ → ℕ → Type 0
+First before x e = (e % 4 ≡ 0) × (e ≤ x) × (x < e + 4)
+First after x e = (e % 4 ≡ 0) × (x < e) × (e ≤ x + 4)
+
+-- a clip position is
+module _ (a : Axis) (ok : Regular a) (walk : WalkLine (a .line)) (x : ℕ) where
+  line4 : hasLine a ≡ true → linePosition a x % 8 ≡ 4
+  line4 h = omega (arith, ltb-true 0 (a .line) h, walk .0, walk .1, bound8 a ok x before, ok .ctb8, ok .big)
+
+  pub found-first : {side : Side → ClipCause} (d : Side) (e : ℕ) → Found a x side d e → First d x e
+  found-first d e f = by d (f .stop) (f .place)
+    where
+      by : (d : Side) → Stop d x e → ((hasLine a ≡ true) × (e ≡ linePosition a x)) ⊎ ((e % 8 ≡ 0) × Near d x e) → First d x e
+      by before s (inl l) = omega (arith, line4 (l .0))
+      by after s (inl l) = omega (arith, line4 (l .0))
+      by before s (inr n) = omega arith
+      by after s (inr n) = omega arith
+
 -- of the CTB of a position x
-module _ (a : Axis) (ok : Regular a) (q x : ℕ) (low : q * a .ctb ≤ x) (high : x < ctbLimit a q) where
+module _ (a : Axis) (ok : Regular a) (walk : WalkLine (a .line)) (q x : ℕ) (low : q * a .ctb ≤ x) (high : x < ctbLimit a q) where
   side4 : q * a .ctb % 4 ≡ 0
-  side4 = let here : x < q * a .ctb + a .ctb = omega arith in rw (ctb-of a q x low here) at (bound4 a ok x before)
+  side4 =
+      let here : x < q * a .ctb + a .ctb = omega arith in
+      let start8 : q * a .ctb % 8 ≡ 0 = rw (ctb-of a q x low here) at (bound8 a ok x before) in
+      omega arith
 
   inner4 : (b : ℕ) → Inner a q b → b % 4 ≡ 0
-  inner4 b (inl l) = omega (arith, l .1, side4, ok .ctb8, ok .big)
+  inner4 b (inl l) = omega (arith, l .1, side4, ok .ctb8, ok .big, walk .0, walk .1)
   inner4 b (inr m) = let b8 = ok .virtual8 b m in omega arith
 
   begins4 : (b : ℕ) → Begins a q b → b % 4 ≡ 0
@@ -72,7 +99,7 @@ record Run (a : Axis) (q x r : ℕ) : Type 0 where
   whole : (b : ℕ) → Inner a q b → x < b → r ≤ b
   ends : (r ≡ ctbLimit a q) ⊎ Inner a q r
 
-module _ (a : Axis) (ok : Regular a) (side : Side → ClipCause) (q : ℕ) where
+module _ (a : Axis) (ok : Regular a) (walk : WalkLine (a .line)) (side : Side → ClipCause) (q : ℕ) where
   -- a block from x on
   module _ (x : ℕ) (low : q * a .ctb ≤ x) (high : x + 4 ≤ ctbLimit a q) (x4 : x % 4 ≡ 0) where
     place : (x + 3) / a .ctb ≡ q
@@ -90,11 +117,11 @@ module _ (a : Axis) (ok : Regular a) (side : Side → ClipCause) (q : ℕ) where
     clear n (inr m) = n .free .0 (x + 4) m (omega arith)
 
     later : (b : ℕ) → Inner a q b → x < b → x + 4 ≤ b
-    later b i h = let b4 = inner4 a ok q x low (omega arith) b i in omega arith
+    later b i h = let b4 = inner4 a ok walk q x low (omega arith) b i in omega arith
 
     block : (o : Option ℕ) → Ends (Found a (x + 3) side after) (Clear a (x + 3) side after) o → {r : ℕ} → Run a q (x + 4) r
         → Run a q x (cond (isNone o) r (x + 4))
-    block _ (stops {e} f) t = record { on = omega arith; moved = inr (omega arith); most = high; whole = later; ends = stop e (omega (arith, f .first)) (f .rule) }
+    block _ (stops {e} f) t = record { on = omega arith; moved = inr (omega arith); most = high; whole = later; ends = stop e (omega (arith, found-first a ok walk (x + 3) after e f)) (f .rule) }
     block _ (runs n) {r} t = record {
       on = omega (arith, t .on);
       moved = inr (omega (arith, t .on));
@@ -109,13 +136,13 @@ module _ (a : Axis) (ok : Regular a) (side : Side → ClipCause) (q : ℕ) where
   unfolding runEnd
   run zero x low e x4 = record { on = omega arith; moved = inl (omega arith); most = omega arith; whole = λ b i h. omega arith; ends = inl (omega arith) }
   run (suc n) x low e x4 =
-      block x low (omega arith) x4 _ (clip-found a ok (x + 3) side after) (run n (x + 4) (omega arith) (omega arith) (omega arith))
+      block x low (omega arith) x4 _ (clip-found a ok (x + 3) (walk-fits walk) side after) (run n (x + 4) (omega arith) (omega arith) (omega arith))
 
   pub span : (x : ℕ) → x < ctbLimit a q → q * a .ctb ≤ x → Begins a q x → Span a q x (pieceEnd a side q x)
   unfolding pieceEnd
   span x high low b =
-      let x4 = begins4 a ok q x low high x b in
-      let all : x + 4 * ((ctbLimit a q - x) / 4) ≡ ctbLimit a q = omega (arith, limit4 a ok q x low high) in
+      let x4 = begins4 a ok walk q x low high x b in
+      let all : x + 4 * ((ctbLimit a q - x) / 4) ≡ ctbLimit a q = omega (arith, limit4 a ok walk q x low high) in
       let r = run ((ctbLimit a q - x) / 4) x low all x4 in
       record {
         from = low;
@@ -126,15 +153,15 @@ module _ (a : Axis) (ok : Regular a) (side : Side → ClipCause) (q : ℕ) where
         ends = r .ends;
       }
 
-module _ (a : Axis) (ok : Regular a) (q lo hi : ℕ) (s : Span a q lo hi) where
+module _ (a : Axis) (ok : Regular a) (walk : WalkLine (a .line)) (q lo hi : ℕ) (s : Span a q lo hi) where
   inside : lo < ctbLimit a q
   inside = omega (arith, s .filled, s .upto)
 
   pub start4 : lo % 4 ≡ 0
-  start4 = begins4 a ok q lo (s .from) inside lo (s .begins)
+  start4 = begins4 a ok walk q lo (s .from) inside lo (s .begins)
 
   pub end4 : hi % 4 ≡ 0
-  end4 = ⊎-elim (λ (e : hi ≡ ctbLimit a q). rw e (limit4 a ok q lo (s .from) inside)) (inner4 a ok q lo (s .from) inside hi) (s .ends)
+  end4 = ⊎-elim (λ (e : hi ≡ ctbLimit a q). rw e (limit4 a ok walk q lo (s .from) inside)) (inner4 a ok walk q lo (s .from) inside hi) (s .ends)
 
   -- where it ends within the CTB, another may begin
   pub next-begins : hi < ctbLimit a q → Begins a q hi

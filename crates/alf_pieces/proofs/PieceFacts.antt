@@ -15,10 +15,10 @@ use Rattle.alf_spec.proofs.Tests.{both, same-test}
 use Rattle.alf_spec.proofs.Axes.{Regular, ctb-of}
 use Rattle.alf_spec.proofs.IsolatedRegions.Ratios.{Ratio, own-le, le-own, own-lt, lt-own, boundary}
 use Rattle.alf_spec.proofs.IsolatedRegions.Reach.{Reach}
-use Rattle.alf_spec.proofs.IsolatedRegions.ClipPositions.{bound, bound4}
+use Rattle.alf_spec.proofs.IsolatedRegions.ClipPositions.{bound, bound-even}
 use Rattle.alf_spec.proofs.IsolatedRegions.PastCtb.{past as past-ctb, beyond}
 use Rattle.alf_pieces.specs.declared.pieces.Piece.{Piece}
-use Rattle.alf_pieces.specs.Pieces.{ctbLimit, pieceEnd, pieceAt, Begins, PieceOf, PieceIn}
+use Rattle.alf_pieces.specs.Pieces.{WalkLine, ctbLimit, pieceEnd, pieceAt, Begins, PieceOf, PieceIn}
 use Rattle.alf_pieces.specs.Copies.{held}
 use Rattle.alf_pieces.proofs.PieceEnds.{Span, bound-at, span, start4, end4, next-begins}
 use Rattle.alf_pieces.proofs.PieceClips.{tip, outermost, AtTip, cut, uncut, at-tip, open-bound, Meets, at-end, open-end, far-end, meets}
@@ -71,7 +71,7 @@ kept : (n : ℕ) (p : Piece) → PieceIn n p → (d : Side) → Closed d p → (
 kept n p i before c u = le-ltb (held (p .lowest) (p .limit) u) (p .start) (omega (arith, i .filled, i .high))
 kept n p i after c u = lt-leb (p .end) (held (p .lowest) (p .limit) u) (omega (arith, i .filled))
 
-module _ (a : Axis) (ok : Regular a) (ratio : Ratio (a .ratio)) (side : Side → ClipCause) (q s : ℕ)
+module _ (a : Axis) (ok : Regular a) (walk : WalkLine (a .line)) (ratio : Ratio (a .ratio)) (side : Side → ClipCause) (q s : ℕ)
     (part : Span a q (lumaPosition a s) (pieceEnd a side q (lumaPosition a s))) where
   abbrev lo : ℕ
   lo = lumaPosition a s
@@ -86,9 +86,16 @@ module _ (a : Axis) (ok : Regular a) (ratio : Ratio (a .ratio)) (side : Side →
   abbrev outer-clip : Side → Option ℕ
   outer-clip d = clipPosition a (outermost d lo hi) side d
 
+  -- its ends are whole samples of the plane
+  start-even : lo % 2 ≡ 0
+  start-even = omega (arith, start4 a ok walk q lo hi part)
+
+  end-even : hi % 2 ≡ 0
+  end-even = omega (arith, end4 a ok walk q lo hi part)
+
   most : hi / a .ratio ≤ samples a
-  most = let n4 : a .size % 4 ≡ 0 = omega (arith, ok .size8) in
-      own-le (a .ratio) hi (samples a) (omega (arith, part .upto, boundary (a .ratio) ratio (a .size) n4))
+  most = let even : a .size % 2 ≡ 0 = omega (arith, ok .size8) in
+      own-le (a .ratio) hi (samples a) (omega (arith, part .upto, boundary (a .ratio) ratio (a .size) even))
 
   lowest-le : {o : Option ℕ} → AtTip lo o → lowest a o ≤ s
   lowest-le cut = own-le (a .ratio) lo s (omega arith)
@@ -101,10 +108,10 @@ module _ (a : Axis) (ok : Regular a) (ratio : Ratio (a .ratio)) (side : Side →
   numbers : a .ctb ≤ 128 → PieceIn (samples a) p
   unfolding pieceAt
   numbers small =
-      let at-limit = limit-in (at-tip a ok side q lo hi part after) in
+      let at-limit = limit-in (at-tip a ok walk side q lo hi part after) in
       record {
-        low = lowest-le (at-tip a ok side q lo hi part before);
-        filled = own-lt (a .ratio) ratio hi s (end4 a ok q lo hi part) (part .filled);
+        low = lowest-le (at-tip a ok walk side q lo hi part before);
+        filled = own-lt (a .ratio) ratio hi s end-even (part .filled);
         high = at-limit .0;
         inside = at-limit .1;
         small = own-most (a .ratio) ratio hi s 128 (omega (arith, part .upto, part .from));
@@ -112,7 +119,7 @@ module _ (a : Axis) (ok : Regular a) (ratio : Ratio (a .ratio)) (side : Side →
 
   end-luma : lumaPosition a (p .end) ≡ hi
   unfolding pieceAt
-  end-luma = boundary (a .ratio) ratio hi (end4 a ok q lo hi part)
+  end-luma = boundary (a .ratio) ratio hi end-even
 
   closed : (d : Side) → outer-clip d ≡ some (tip d lo hi) → Closed d p
   unfolding pieceAt
@@ -142,12 +149,12 @@ module _ (a : Axis) (ok : Regular a) (ratio : Ratio (a .ratio)) (side : Side →
     inPlane = omega (arith, h .high, n .high, n .inside)
 
     met : (d : Side) → Meets d (tip d lo hi) X (lumaPosition a (inside a u)) (clipPosition a X side d) (outer-clip d)
-    met = meets a ok side q lo hi part X (low, high) (lumaPosition a (inside a u)) (reach-inside a x u inPlane (h .reach))
+    met = meets a ok walk side q lo hi part X (low, high) (lumaPosition a (inside a u)) (reach-inside a x u inPlane (h .reach))
 
     reads : clamped a (clipPosition a X side) u ≡ held (p .lowest) (p .limit) u
     unfolding pieceAt
     reads =
-        clamped-same a x u ratio s hi (clipPosition a X side) outer-clip (h .low) high (end4 a ok q lo hi part)
+        clamped-same a x u ratio s hi (clipPosition a X side) outer-clip (h .low) high end-even
         (n .low) (n .high) (n .inside) (met before) (met after)
 
     -- ---- past the piece, and past the CTB
@@ -156,7 +163,7 @@ module _ (a : Axis) (ok : Regular a) (ratio : Ratio (a .ratio)) (side : Side →
     unfolding pieceAt
     from-ctb before v t =
         let l : lumaPosition a v < lo = omega (arith, start-is, beyond a ok ratio x v before t, part .from) in
-        lt-ltb v s (rw (own-is (a .ratio) ratio s) at (own-lt (a .ratio) ratio lo v (start4 a ok q lo hi part) l))
+        lt-ltb v s (rw (own-is (a .ratio) ratio s) at (own-lt (a .ratio) ratio lo v start-even l))
     from-ctb after v t =
         le-leb (hi / a .ratio) v (own-le (a .ratio) hi v (omega (arith, start-is, beyond a ok ratio x v after t, part .upto)))
 
@@ -166,7 +173,7 @@ module _ (a : Axis) (ok : Regular a) (ratio : Ratio (a .ratio)) (side : Side →
         let l : v < lo / a .ratio = rw (own-is (a .ratio) ratio s) (ltb-true v s t) in
         past-ctb a ok ratio x v before (omega (arith, low, lt-own (a .ratio) lo v l))
     to-ctb after v e t =
-        let l = le-own (a .ratio) ratio hi v (end4 a ok q lo hi part) (leb-true (hi / a .ratio) v t) in
+        let l = le-own (a .ratio) ratio hi v end-even (leb-true (hi / a .ratio) v t) in
         past-ctb a ok ratio x v after (omega (arith, high))
 
     -- the neighbour, clamped
@@ -174,7 +181,7 @@ module _ (a : Axis) (ok : Regular a) (ratio : Ratio (a .ratio)) (side : Side →
     v = held (p .lowest) (p .limit) u
 
     not-cut : (d : Side) → pastPiece d p v ≡ true → isNone (outer-clip d) ≡ true
-    not-cut d t = by (outer-clip d) refl (at-tip a ok side q lo hi part d)
+    not-cut d t = by (outer-clip d) refl (at-tip a ok walk side q lo hi part d)
       where
         by : (o : Option ℕ) → outer-clip d ≡ o → AtTip (tip d lo hi) o → isNone o ≡ true
         by _ e cut = absurd (true≢false (sym t ∙ kept (samples a) p n d (closed d e) u))
@@ -187,12 +194,12 @@ module _ (a : Axis) (ok : Regular a) (ratio : Ratio (a .ratio)) (side : Side →
     in-picture after t =
         let past = leb-true (hi / a .ratio) v t in
         let in-plane : hi / a .ratio < samples a = omega (arith, n .inside, n .low, n .filled, n .high) in
-        omega (arith, lt-own (a .ratio) (a .size) (hi / a .ratio) in-plane, boundary (a .ratio) ratio hi (end4 a ok q lo hi part))
+        omega (arith, lt-own (a .ratio) (a .size) (hi / a .ratio) in-plane, boundary (a .ratio) ratio hi end-even)
 
     at-bound : (d : Side) → pastPiece d p v ≡ true → tip d lo hi ≡ bound a d X
     at-bound d t =
         let start-place = ctb-of a q lo (part .from) (omega (arith, part .filled, part .upto)) in
-        open-bound a ok side q lo hi part d (not-cut d t) (in-picture d t) ∙ bound-at a d q lo start-place ∙ sym (bound-at a d q X place)
+        open-bound a ok walk side q lo hi part d (not-cut d t) (in-picture d t) ∙ bound-at a d q lo start-place ∙ sym (bound-at a d q X place)
 
     no-clip : (d : Side) (o o′ : Option ℕ) → Meets d (tip d lo hi) X (lumaPosition a (inside a u)) o o′ → isNone o′ ≡ true → isNone o ≡ true
     no-clip d _ _ at-end q = q
@@ -208,7 +215,7 @@ module _ (a : Axis) (ok : Regular a) (ratio : Ratio (a .ratio)) (side : Side →
     unfolding pieceAt
     edge before t = rw (← (at-bound before t)) (own-is (a .ratio) ratio s)
     edge after t =
-        let sum = own-sum (a .ratio) ratio (ctbStart a X) (a .ctb) (bound4 a ok X before) (ok .ctb8) in
+        let sum = own-sum (a .ratio) ratio (ctbStart a X) (a .ctb) (bound-even a ok X before) (ok .ctb8) in
         ap pred (sym sum ∙ ap (λ (m : ℕ). m / a .ratio) (sym (at-bound after t)))
 
   facts : a .ctb ≤ 128 → Facts a side q p
@@ -217,16 +224,16 @@ module _ (a : Axis) (ok : Regular a) (ratio : Ratio (a .ratio)) (side : Side →
     numbers = numbers small;
     from = part .from;
     upto = rw end-luma (part .upto);
-    start4 = start4 a ok q lo hi part;
-    end4 = rw end-luma (end4 a ok q lo hi part);
-    next = rw end-luma (next-begins a ok q lo hi part);
+    start4 = start4 a ok walk q lo hi part;
+    end4 = rw end-luma (end4 a ok walk q lo hi part);
+    next = rw end-luma (next-begins a ok walk q lo hi part);
     reads = λ x u h. reads (numbers small) x u h;
     past = λ x u h. past (numbers small) x u h;
     edge = λ x u h. edge (numbers small) x u h;
   }
 
-pub piece-facts : (a : Axis) → Regular a → Ratio (a .ratio) → a .ctb ≤ 128 → (side : Side → ClipCause) (q : ℕ) (p : Piece)
+pub piece-facts : (a : Axis) → Regular a → WalkLine (a .line) → Ratio (a .ratio) → a .ctb ≤ 128 → (side : Side → ClipCause) (q : ℕ) (p : Piece)
     → PieceOf a side q p → Facts a side q p
-piece-facts a ok ratio small side q p h =
-    let part = span a ok side q (lumaPosition a (p .start)) (h .upto) (h .from) (h .begins) in
-    subst (Facts a side q) (sym (h .is)) (facts a ok ratio side q (p .start) part small)
+piece-facts a ok walk ratio small side q p h =
+    let part = span a ok walk side q (lumaPosition a (p .start)) (h .upto) (h .from) (h .begins) in
+    subst (Facts a side q) (sym (h .is)) (facts a ok walk ratio side q (p .start) part small)

@@ -20,7 +20,7 @@ pub own-is : (r : ℕ) → Ratio r → (u : ℕ) → u * r / r ≡ u
 own-is _ whole u = omega arith
 own-is _ half u = omega arith
 
-pub own-sum : (r : ℕ) → Ratio r → (b s : ℕ) → b % 4 ≡ 0 → s % 8 ≡ 0 → (b + s) / r ≡ b / r + s / r
+pub own-sum : (r : ℕ) → Ratio r → (b s : ℕ) → b % 2 ≡ 0 → s % 8 ≡ 0 → (b + s) / r ≡ b / r + s / r
 own-sum _ whole b s q k = omega arith
 own-sum _ half b s q k = omega arith
 
@@ -60,7 +60,7 @@ module _ (a : Axis) (ratio : Ratio (a .ratio)) (x u : ℕ) where
       omega arith
 
   -- after it, where it ends at hi; w is the neighbour, clamped on the other side
-  high-same : (hi w : ℕ) (o o′ : Option ℕ) → Meets after hi x (lumaPosition a u) o o′ → hi % 4 ≡ 0 → x < hi → hi / a .ratio ≤ samples a
+  high-same : (hi w : ℕ) (o o′ : Option ℕ) → Meets after hi x (lumaPosition a u) o o′ → hi % 2 ≡ 0 → x < hi → hi / a .ratio ≤ samples a
       → (u < hi / a .ratio → w < hi / a .ratio)
       → min (pred (limit a o)) w ≡ min (pred (limit a o′)) w
   high-same hi w _ _ at-end q h k near = refl
@@ -85,7 +85,7 @@ module _ (a : Axis) (x u : ℕ) where
 
   -- the piece from s to hi, by the clip positions of its outermost samples
   pub clamped-same : Ratio (a .ratio) → (s hi : ℕ) (clip outer : Side → Option ℕ)
-      → s ≤ x → lumaPosition a x < hi → hi % 4 ≡ 0 → lowest a (outer before) ≤ s → hi / a .ratio ≤ limit a (outer after) → limit a (outer after) ≤ samples a
+      → s ≤ x → lumaPosition a x < hi → hi % 2 ≡ 0 → lowest a (outer before) ≤ s → hi / a .ratio ≤ limit a (outer after) → limit a (outer after) ≤ samples a
       → Meets before (lumaPosition a s) (lumaPosition a x) (lumaPosition a (inside a u)) (clip before) (outer before)
       → Meets after hi (lumaPosition a x) (lumaPosition a (inside a u)) (clip after) (outer after)
       → clamped a clip u ≡ held (lowest a (outer before)) (limit a (outer after)) u

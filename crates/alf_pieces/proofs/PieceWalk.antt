@@ -1,6 +1,6 @@
 -- A loop over the pieces of a CTB along one axis, for every plane: where it stands, and how each piece carries it on. Assumes nothing.
 use mathlib.Core.Path.{_≡_, refl, ap, subst}
-use mathlib.Core.Bool.{Bool, true, false}
+use mathlib.Core.Bool.{true}
 use mathlib.Core.List.{List}
 use Prim.Native.Nat.{ℕ, _-_, _*_, _/_, _≤_, _<_}
 use native.Mathlib.Nat.{le-antisymm, mul-le-mul-right}
@@ -16,7 +16,7 @@ use Rattle.alf_spec.proofs.IsolatedRegions.Ratios.{Ratio, whole, half, lt-own}
 use Rattle.alf_math.specs.Grids.{GridOf}
 use Rattle.alf_boundary.specs.Clips.{axisOf}
 use Rattle.alf_pieces.specs.declared.pieces.Piece.{Piece}
-use Rattle.alf_pieces.specs.Pieces.{ctbLimit, pieceAt, Begins, at-side, PieceOf, BlockPiece}
+use Rattle.alf_pieces.specs.Pieces.{WalkLine, ctbLimit, pieceAt, Begins, at-side, PieceOf, BlockPiece}
 use Rattle.alf_pieces.proofs.PieceFacts.{Facts, piece-facts}
 
 -- ---- the loop
@@ -51,20 +51,20 @@ pub record Turn (a : Axis) (side : Side → ClipCause) (q x : ℕ) (p : Piece) :
   pub piece : PieceOf a side q p
   pub facts : Facts a side q p
 
-pub turn : {a : Axis} {side : Side → ClipCause} {q x : ℕ} {p : Piece} → Regular a → Ratio (a .ratio) → a .ctb ≤ 128
+pub turn : {a : Axis} {side : Side → ClipCause} {q x : ℕ} {p : Piece} → Regular a → Ratio (a .ratio) → WalkLine (a .line) → a .ctb ≤ 128
     → Walk a q x → x < ctbLimit a q / a .ratio → p ≡ pieceAt a side q x → Turn a side q x p
 unfolding pieceAt
-turn {a} {side} {q} {x} {p} ok ratio small w h e =
+turn {a} {side} {q} {x} {p} ok ratio walk small w h e =
     let piece : PieceOf a side q p =
     rw e record { from = w .from; upto = lt-own (a .ratio) (ctbLimit a q) x h; begins = w .begins (lt-own (a .ratio) (ctbLimit a q) x h); is = refl } in
-    record { start = ap (λ (p : Piece). p .start) e; piece = piece; facts = piece-facts a ok ratio small side q p piece }
+    record { start = ap (λ (p : Piece). p .start) e; piece = piece; facts = piece-facts a ok walk ratio small side q p piece }
 
 -- the loop's measure
 pub turn-less : {a : Axis} {side : Side → ClipCause} {q x end : ℕ} {p : Piece} → Turn a side q x p → x < end → end - p .end < end - x
 turn-less t h = omega (arith, t .start, t .facts .numbers .filled)
 
 -- in the luma plane, a piece of whole blocks
-pub block-piece : {n ctb : ℕ} {list : List ℕ} {line : Bool} {side : Side → ClipCause} {q : ℕ} {p : Piece}
+pub block-piece : {n ctb : ℕ} {list : List ℕ} {line : ℕ} {side : Side → ClipCause} {q : ℕ} {p : Piece}
     → Facts (axisOf n ctb list line 1) side q p → BlockPiece n p
 block-piece {n = n} {p = p} f =
     let own : n / 1 ≡ n = omega arith in
@@ -72,13 +72,21 @@ block-piece {n = n} {p = p} f =
 
 -- ---- its axis
 
+-- columns have no line
+pub walk-none : WalkLine 0
+walk-none = omega arith
+
+-- the line of luma
+pub walk-luma : WalkLine 4
+walk-luma = omega arith
+
 -- the axes of an accepted picture, as code has them
 module _ {p : Picture} {g : Grid} (grid : GridOf p g) (sizes : pictureSizeValid p ≡ true) (log2 : ctbSizeValid p ≡ true) {list : List ℕ} where
-  pub columns-regular : virtualListValid (p .width) (ctbSize p) list ≡ true → (ratio : ℕ) → Regular (axisOf (p .width) (g .ctb) list false ratio)
-  columns-regular valid ratio = rw (grid .ctb) (regular p log2 (p .width) list false ratio (sizes-valid p sizes .0) valid)
+  pub columns-regular : virtualListValid (p .width) (ctbSize p) list ≡ true → (ratio : ℕ) → Regular (axisOf (p .width) (g .ctb) list 0 ratio)
+  columns-regular valid ratio = rw (grid .ctb) (regular p log2 (p .width) list 0 ratio (sizes-valid p sizes .0) valid)
 
-  pub rows-regular : virtualListValid (p .height) (ctbSize p) list ≡ true → (ratio : ℕ) → Regular (axisOf (p .height) (g .ctb) list true ratio)
-  rows-regular valid ratio = rw (grid .ctb) (regular p log2 (p .height) list true ratio (sizes-valid p sizes .1) valid)
+  pub rows-regular : virtualListValid (p .height) (ctbSize p) list ≡ true → (line ratio : ℕ) → Regular (axisOf (p .height) (g .ctb) list line ratio)
+  rows-regular valid line ratio = rw (grid .ctb) (regular p log2 (p .height) list line ratio (sizes-valid p sizes .1) valid)
 
 -- two sides with the same causes
 sides-same : {given side : Side → ClipCause} → given before ≡ side before → given after ≡ side after → given ≡ side

@@ -1,6 +1,6 @@
 -- A piece of the luma plane, in the samples of another plane, is the piece of that plane. Assumes nothing.
 use mathlib.Core.Path.{_≡_, refl, sym, ap, _∙_}
-use mathlib.Core.Bool.{Bool, cond}
+use mathlib.Core.Bool.{cond}
 use mathlib.Core.List.{List}
 use mathlib.Core.Option.{Option, some, none}
 use Prim.Native.Nat.{ℕ, zero, suc, pred, _+_, _-_, _*_, _/_}
@@ -14,7 +14,7 @@ use Rattle.alf_boundary.specs.Clips.{axisOf}
 use Rattle.alf_pieces.specs.declared.pieces.Piece.{Piece}
 use Rattle.alf_pieces.specs.Pieces.{ctbLimit, runEnd, pieceEnd, pieceAt, scaled, Begins, at-side, at-boundary, at-line, PieceOf}
 
-module _ (size ctb : ℕ) (list : List ℕ) (line : Bool) (side : Side → ClipCause) (q ratio : ℕ) where
+module _ (size ctb : ℕ) (list : List ℕ) (line : ℕ) (side : Side → ClipCause) (q ratio : ℕ) where
   abbrev luma : Axis
   luma = axisOf size ctb list line 1
 

@@ -9,7 +9,7 @@ use Rattle.alf_spec.specs.declared.Ctb.{Ctb}
 use Rattle.alf_spec.specs.declared.Sides.{Sides}
 use Rattle.alf_spec.specs.Lists.{elem}
 use Rattle.alf_spec.specs.Input.{Layout}
-use Rattle.alf_spec.specs.Geometry.{Side, before, after, Axis, lumaPosition}
+use Rattle.alf_spec.specs.Geometry.{Side, before, after, Axis, hasLine, lumaPosition}
 use Rattle.alf_spec.specs.Boundary.{clipPosition}
 use Rattle.alf_spec.specs.Padding.{isNone, lowest, limit}
 use Rattle.alf_spec.specs.Faults.{pictureSizeValid, ctbSizeValid, virtualBoundariesValid}
@@ -23,13 +23,17 @@ either b c after = c
 
 -- ---- where a piece ends, in luma positions
 
+-- pieces are found with the line 4 luma rows above a CTB's bottom, or with none: then clip positions are multiples of 4
+abbrev pub WalkLine : ℕ → Type 0
+WalkLine n = (n % 4 ≡ 0) × (n ≤ 4)
+
 -- where the CTB at place q ends in the picture: the last CTB may not be whole
 abbrev pub ctbLimit : Axis → ℕ → ℕ
 ctbLimit a q = min (q * a .ctb + a .ctb) (a .size)
 
 -- its line-buffer boundary
 abbrev pub ctbLine : Axis → ℕ → ℕ
-ctbLine a q = q * a .ctb + (a .ctb - 4)
+ctbLine a q = q * a .ctb + (a .ctb - a .line)
 
 -- a run of blocks of 4 samples from x on, at most n of them: it ends with the first block whose last sample has a clip position after it
 unfoldable pub runEnd : Axis → (Side → ClipCause) → ℕ → ℕ → ℕ
@@ -61,7 +65,7 @@ scaled ratio p = record { start = p .start / ratio; end = p .end / ratio; lowest
 pub data Begins (a : Axis) (q x : ℕ) : Type 0 where
   at-side : x ≡ q * a .ctb → Begins a q x
   at-boundary : elem x (a .virtualBoundaries) ≡ true → Begins a q x
-  at-line : a .hasLine ≡ true → x ≡ ctbLine a q → Begins a q x
+  at-line : hasLine a ≡ true → x ≡ ctbLine a q → Begins a q x
 
 -- p is a piece of the CTB at place q
 pub record PieceOf (a : Axis) (side : Side → ClipCause) (q : ℕ) (p : Piece) : Type 0 where

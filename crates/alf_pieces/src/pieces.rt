@@ -1,7 +1,7 @@
 // The pieces of a CTB along an axis. A piece goes from one clip position to the next, and all reads from its samples are clamped to one range, which is
 // found once: that of its first and of its last sample.
 ghost use mathlib.Core.Path.{_≡_};
-ghost use mathlib.Core.Bool.{Bool, true, false};
+ghost use mathlib.Core.Bool.{true, false};
 ghost use mathlib.Core.List.{List};
 ghost use Prim.Native.Nat.{ℕ, _+_, _*_, min, _≤_, _<_};
 ghost use Rattle.alf_spec.specs.declared.ClipCause.{ClipCause};
@@ -13,6 +13,7 @@ ghost use Rattle.alf_pieces.specs.Pieces.{pieceEnd, pieceAt, scaled as s
 use alf_boundary::clips::FoundClip;
 use alf_boundary::clips::clip_after;
 use alf_boundary::clips::clip_before;
+use alf_boundary::clips::ctb_start;
 use alf_math::grid::previous;
 use alf_spec::ClipCause;
 use alf_spec::Grid;
@@ -42,7 +43,7 @@ fn is_open(found: FoundClip) -> bool
 // Where reads begin: the clip position before, in the plane's own samples, or 0.
 fn lowest(found: FoundClip, ratio: u32) -> u32
     requires { ⌜ 0 < ratio ⌝ }
-    ensures { λ r. ⌜ ((size ctb : ℕ) (boundaries : List ℕ) (line : Bool) → r ≡ lowestOf (axisOf size ctb boundaries line ratio) (positionOf found)) ⌝ }
+    ensures { λ r. ⌜ ((size ctb : ℕ) (boundaries : List ℕ) (line : ℕ) → r ≡ lowestOf (axisOf size ctb boundaries line ratio) (positionOf found)) ⌝ }
 {
     match found {
         FoundClip::At(clip) => clip.position / ratio,
@@ -53,7 +54,7 @@ fn lowest(found: FoundClip, ratio: u32) -> u32
 // Where reads end: the clip position after, in the plane's own samples, or the plane's end.
 fn limit(found: FoundClip, size: u32, ratio: u32) -> u32
     requires { ⌜ 0 < ratio ⌝ }
-    ensures { λ r. ⌜ ((ctb : ℕ) (boundaries : List ℕ) (line : Bool) → r ≡ limitOf (axisOf size ctb boundaries line ratio) (positionOf found)) ⌝ }
+    ensures { λ r. ⌜ ((ctb : ℕ) (boundaries : List ℕ) (line : ℕ) → r ≡ limitOf (axisOf size ctb boundaries line ratio) (positionOf found)) ⌝ }
 {
     match found {
         FoundClip::At(clip) => clip.position / ratio,
@@ -71,26 +72,27 @@ pub fn ctb_limit(size: u32, ctb: u32, q: u32) -> u32
 }
 
 // Where the piece ends that begins at the luma position x of the CTB at place q: with the first block of 4 samples whose last one has a clip position
-// after it. Clip positions are multiples of 4, so none stands within a block.
+// after it. With the line 4 rows above a CTB's bottom, or none, clip positions are multiples of 4, so that none stands within a block.
 fn piece_end(
     size: u32,
     ctb: u32,
-    line: bool,
+    line: u32,
     boundaries: &[u16],
     side: ClipCause,
     q: u32,
     x: u32,
 ) -> u32
-    requires { ⌜ (4 ≤ ctb) × (ctb ≤ 128) × (q ≤ 128) × (x ≤ 65535) ⌝ }
+    requires { ⌜ (4 ≤ ctb) × (ctb ≤ 128) × (line ≤ 4) × (q ≤ 128) × (x ≤ 65535) × (q * ctb ≤ x) ⌝ }
     ensures { λ r. ⌜ (r ≤ 65535) × ((ratio : ℕ) (sides : Side → ClipCause) → sides after ≡ side
         → r ≡ pieceEnd (axisOf size ctb (now (boundaries .entry)) line ratio) sides q x) ⌝ }
 {
     let limit = ctb_limit(size, ctb, q);
+    let start = q * ctb;
     let mut end = x;
     while end + 4 <= limit {
         let last = end + 3;
         end += 4;
-        if !is_open(clip_after(ctb, line, boundaries, side, last)) {
+        if !is_open(clip_after(start, ctb, line, boundaries, side, last)) {
             return end;
         }
     }
@@ -101,7 +103,7 @@ fn piece_end(
 fn piece_from(
     size: u32,
     ctb: u32,
-    line: bool,
+    line: u32,
     boundaries: &[u16],
     ratio: u32,
     side_before: ClipCause,
@@ -109,13 +111,15 @@ fn piece_from(
     q: u32,
     x: u32,
 ) -> Piece
-    requires { ⌜ (4 ≤ ctb) × (ctb ≤ 128) × (0 < ratio) × (ratio ≤ 2) × (q ≤ 128) × (x ≤ 4096) ⌝ }
+    requires { ⌜ (4 ≤ ctb) × (ctb ≤ 128) × (line ≤ 4) × (0 < ratio) × (ratio ≤ 2) × (q ≤ 128) × (x ≤ 4096) × (q * ctb ≤ x * ratio) ⌝ }
     ensures { λ r. ⌜ r ≡ pieceAt (axisOf size ctb (now (boundaries .entry)) line ratio) (either «side_before» «side_after») q x ⌝ }
 {
     let at = x * ratio;
     let stop = piece_end(size, ctb, line, boundaries, side_after, q, at);
-    let lower = clip_before(ctb, line, boundaries, side_before, at);
-    let upper = clip_after(ctb, line, boundaries, side_after, previous(stop));
+    let lower = clip_before(ctb_start(ctb, at), ctb, line, boundaries, side_before, at);
+    let last = previous(stop);
+    let start = ctb_start(ctb, last);
+    let upper = clip_after(start, ctb, line, boundaries, side_after, last);
     Piece {
         start: x,
         end: stop / ratio,
@@ -134,8 +138,8 @@ pub fn column_piece(
     q: u32,
     x: u32,
 ) -> Piece
-    requires { ⌜ (GridOf picture grid) × (0 < ratio) × (ratio ≤ 2) × (q ≤ 128) × (x ≤ 4096) ⌝ }
-    ensures { λ r. ⌜ r ≡ pieceAt (axisOf (picture .width) (grid .ctb) (now («virtual_columns» .entry)) false ratio)
+    requires { ⌜ (GridOf picture grid) × (0 < ratio) × (ratio ≤ 2) × (q ≤ 128) × (x ≤ 4096) × (q * grid .ctb ≤ x * ratio) ⌝ }
+    ensures { λ r. ⌜ r ≡ pieceAt (axisOf (picture .width) (grid .ctb) (now («virtual_columns» .entry)) 0 ratio)
         (either (sides .left) (sides .right)) q x ⌝ }
 {
     let left = sides.left;
@@ -143,7 +147,7 @@ pub fn column_piece(
     piece_from(
         picture.width,
         grid.ctb,
-        false,
+        0,
         virtual_columns,
         ratio,
         left,
@@ -153,18 +157,19 @@ pub fn column_piece(
     )
 }
 
-// The piece that begins at row y of a plane, in the CTB row q.
+// The piece that begins at row y of a plane, in the CTB row q, where the line lies so many luma rows above a CTB's bottom.
 pub fn row_piece(
     picture: Picture,
     grid: Grid,
+    line: u32,
     virtual_rows: &[u16],
     ratio: u32,
     sides: Sides,
     q: u32,
     y: u32,
 ) -> Piece
-    requires { ⌜ (GridOf picture grid) × (0 < ratio) × (ratio ≤ 2) × (q ≤ 128) × (y ≤ 4096) ⌝ }
-    ensures { λ r. ⌜ r ≡ pieceAt (axisOf (picture .height) (grid .ctb) (now («virtual_rows» .entry)) true ratio)
+    requires { ⌜ (GridOf picture grid) × (line ≤ 4) × (0 < ratio) × (ratio ≤ 2) × (q ≤ 128) × (y ≤ 4096) × (q * grid .ctb ≤ y * ratio) ⌝ }
+    ensures { λ r. ⌜ r ≡ pieceAt (axisOf (picture .height) (grid .ctb) (now («virtual_rows» .entry)) line ratio)
         (either (sides .top) (sides .bottom)) q y ⌝ }
 {
     let top = sides.top;
@@ -172,7 +177,7 @@ pub fn row_piece(
     piece_from(
         picture.height,
         grid.ctb,
-        true,
+        line,
         virtual_rows,
         ratio,
         top,

@@ -1,4 +1,4 @@
-// Runs the worked examples P1 to P12 of paper 01 on the proved leaves, one line each.
+// Runs the worked examples P1 to P12 of paper 01 on the proved leaves, one line each; P9 also with the line of card 4.
 mod positions;
 
 ghost use Prim.Native.Nat.{_^_, _≤_, _<_};
@@ -98,9 +98,14 @@ fn main() {
     show_activity(3839);
     show_activity(3840);
     print(b"\nP9   clip positions, CTB of 32:");
-    positions::show_below(23);
-    positions::show_below(24);
-    positions::show_above(28);
+    positions::show_below(4, 23);
+    positions::show_below(4, 24);
+    positions::show_above(4, 28);
+    print(b"\n     for chroma of full height:");
+    positions::show_below(2, 25);
+    positions::show_below(2, 26);
+    positions::show_above(2, 29);
+    positions::show_above(2, 30);
     print(b"\nP10  read from the CTB at (32,32):");
     positions::show_corner();
     print(b"\nP11  line rule of the CTB at row 32:");

@@ -31,29 +31,29 @@ fn show_clip(y: u32, found: FoundClip) {
     }
 }
 
-// The clip position below row y of the CTB at 0: no virtual rows, sides open.
-pub fn show_below(y: u32)
-    requires { ⌜ y ≤ 31 ⌝ }
+// The clip position below row y of the CTB at 0, where the line lies so many rows above its bottom: no virtual rows, sides open.
+pub fn show_below(line: u32, y: u32)
+    requires { ⌜ (line ≤ 4) × (y ≤ 31) ⌝ }
 {
     let boundaries = [0u16; 1];
     let none = 0;
     print(b"  below ");
     show_clip(
         y,
-        clip_after(32, true, &boundaries[..none], ClipCause::Open, y),
+        clip_after(0, 32, line, &boundaries[..none], ClipCause::Open, y),
     );
 }
 
 // And above it.
-pub fn show_above(y: u32)
-    requires { ⌜ y ≤ 31 ⌝ }
+pub fn show_above(line: u32, y: u32)
+    requires { ⌜ (line ≤ 4) × (y ≤ 31) ⌝ }
 {
     let boundaries = [0u16; 1];
     let none = 0;
     print(b"  above ");
     show_clip(
         y,
-        clip_before(32, true, &boundaries[..none], ClipCause::Open, y),
+        clip_before(0, 32, line, &boundaries[..none], ClipCause::Open, y),
     );
 }
 
@@ -106,7 +106,7 @@ pub fn show_corner() {
         ctb,
     );
     let columns = column_piece(picture, grid, &boundaries[..none], 1, sides, 1, 32);
-    let rows = row_piece(picture, grid, &boundaries[..none], 1, sides, 1, 32);
+    let rows = row_piece(picture, grid, 4, &boundaries[..none], 1, sides, 1, 32);
     let mut plane = [0u16; 1600];
     number_samples(&mut plane);
     let mut copy = [0u16; 196];

@@ -38,7 +38,7 @@ returns c =
     let f = c .before .before .before .before .before .before .before .before .before .before in
     let s = start f in
     let of = ctb-accepted (ok s) (f .sides-of .ensures _ _) in
-    ctb-painted (layout s) (ok s) 4 4 whole-blocks whole-blocks _ (map-length (layout s) _ _ (s .pre .4)) (s .pre .0) _ _
+    ctb-painted (layout s) (ok s) 4 4 4 whole-blocks whole-blocks _ (map-length (layout s) _ _ (s .pre .4)) (s .pre .0) _ _
     (c .before .before .before .before .before .before .class-ctb .ensures (layout s) of refl refl)
 
 pub class-address-spec : {M : Type 1} → statement M

@@ -1,6 +1,5 @@
 -- `alf_class_map::class_ctb` meets its contract: the strips above y are classified. Assumes nothing.
 use mathlib.Core.Path.{_≡_, refl, ap, _∙_}
-use mathlib.Core.Bool.{true}
 use mathlib.Core.Logic.{inr}
 use Prim.Native.Nat.{ℕ, _+_, _-_, _*_, _/_, min, _≤_}
 use native.Mathlib.Nat.{div-one}
@@ -18,14 +17,14 @@ use Rattle.alf_lists.proofs.Painted.{Paint, paint-is, paint-none}
 use Rattle.alf_lists.proofs.Regions.{rect-none}
 use Rattle.alf_pieces.proofs.CtbPieces.{row-piece}
 use Rattle.alf_lists.proofs.PaintedRects.{paint-stacked}
-use Rattle.alf_pieces.proofs.PieceWalk.{Walk, walk-start, walk-next, walk-done, Turn, turn, turn-less, block-piece, rows-regular}
+use Rattle.alf_pieces.proofs.PieceWalk.{walk-luma, Walk, walk-start, walk-next, walk-done, Turn, turn, turn-less, block-piece, rows-regular}
 use Rattle.alf_class_map.proofs.ClassWorks.{work-same}
 use Rattle.alf_class_map.proofs.class_ctb.Statement.{statement}
 use Rattle.alf_class_map.proofs.class_ctb.Tie as tie
 
 abbrev Inv-loop : tie.InvT-loop
 Inv-loop picture grid virtual-columns virtual-rows ctb sides luma copy₀ differences₀ map₀ top bottom y₀ copy differences map y =
-    Walk (axisOf (picture .height) (grid .ctb) virtual-rows true 1) (ctb .row) y
+    Walk (axisOf (picture .height) (grid .ctb) virtual-rows 4 1) (ctb .row) y
     × (length copy ≡ length copy₀) × (length differences ≡ length differences₀) × (length map ≡ length map₀)
     × ((l : Layout) → CtbOf l picture ctb sides → l .virtualColumns ≡ virtual-columns → l .virtualRows ≡ virtual-rows
     → Paint map₀ (inRect (picture .width / 4) (ctb .column * grid .ctb / 4) (min (ctb .column * grid .ctb + grid .ctb) (picture .width) / 4)
@@ -53,12 +52,12 @@ loop-holds c = (
 
 -- the piece that a turn finds
 found : (c : tie.After-row-piece Inv-loop μ-loop) → let a = start (c .before) .args in
-    Turn (axisOf (a .picture .height) (a .grid .ctb) (a .virtual-rows .now) true 1) (either (a .sides .top) (a .sides .bottom)) (a .ctb .row)
+    Turn (axisOf (a .picture .height) (a .grid .ctb) (a .virtual-rows .now) 4 1) (either (a .sides .top) (a .sides .bottom)) (a .ctb .row)
     (c .before .before .loop .y) (c .row-piece .result)
 found c =
     let s = start (c .before) in
     let work = s .pre .0 .rooms in
-    turn (rows-regular (work .grid) (work .sizes) (work .ctbSize) (s .pre .2) 1) whole (work .grid .ctbHigh) (c .before .before .loop .inv .0)
+    turn (rows-regular (work .grid) (work .sizes) (work .ctbSize) (s .pre .2) 4 1) whole walk-luma (work .grid .ctbHigh) (c .before .before .loop .inv .0)
     (omega (arith, c .before .before .before .ctb-limit .ensures, c .before .loop-test .taken)) (c .row-piece .ensures)
 
 class-strip-requires : tie.Need-class-strip-requires Inv-loop μ-loop
@@ -84,7 +83,7 @@ loop-again c =
       omega arith,
       λ l of e r.
           paint-stacked _ _ _ _ _ _ (inv .4 l of e r)
-          (c .before .before .before .before .before .before .class-strip .ensures l of e (row-piece of 1 1 (s .pre .0 .rooms .grid) r (t .piece)))
+          (c .before .before .before .before .before .before .class-strip .ensures l of e (row-piece of 1 1 4 (s .pre .0 .rooms .grid) r (t .piece)))
           (ap (λ (n : ℕ). n / 4) (t .start)) (omega (arith, inv .0 .from)) (omega (arith, t .start, t .facts .numbers .filled)),
     )
 
@@ -106,7 +105,7 @@ class-ctb-spec =
     (λ c κs.
     let s = start c in
     let most = height-bounds (s .args .picture) (s .pre .0 .rooms .sizes) (s .pre .0 .rooms .ctbSize) in
-    (s .pre .0 .rooms .grid, omega arith, omega arith, few s, omega (arith, most, c .loop-test .taken, c .before .before .ctb-limit .ensures)))
+    (s .pre .0 .rooms .grid, omega arith, omega arith, omega arith, few s, omega (arith, most, c .loop-test .taken, c .before .before .ctb-limit .ensures), c .before .loop .inv .0 .from))
     class-strip-requires
     loop-less
     loop-again

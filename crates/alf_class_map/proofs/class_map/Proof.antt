@@ -70,7 +70,7 @@ unfolding classMap
 returns c =
     let s = c .before .before .before .before .before .before .before .before .before .before .before .before .before in
     let inv = c .before .loop .inv in
-    all-painted (layout s) (ok s) 4 4 whole-blocks whole-blocks _ (map-length (layout s) _ _ (s .pre)) (c .before .before .before .grid .ensures) _ (inv .4)
+    all-painted (layout s) (ok s) 4 4 4 whole-blocks whole-blocks _ (map-length (layout s) _ _ (s .pre)) (c .before .before .before .grid .ensures) _ (inv .4)
     (le-antisymm (inv .0) (c .loop-test .left))
 
 pub class-map-spec : {M : Type 1} → statement M

@@ -1,5 +1,6 @@
 -- `alf_boundary::clips::clip_after` meets its contract: a rule for each call, in their order. Assumes nothing.
 use mathlib.Core.Path.{_∙_}
+use native.Mathlib.Omega.{arith}
 use borrow.Author.Needs.{needs}
 use Rattle.alf_spec.specs.Boundary.{_orElse_, clip}
 use Rattle.alf_boundary.proofs.clips.clip_after.Statement.{statement}
@@ -12,7 +13,7 @@ clip-after-spec =
     (tie.spec
     (λ c κs. search needs)
     (λ c κs. search needs)
-    (λ c κs. search needs)
+    (λ c κs. let s = c .before .before .before in (s .pre .0, s .pre .1, s .pre .2, omega arith, s .pre .4))
     (λ c κs. search needs)
     (λ c κs. search needs)
     (λ c size ratio sides e.

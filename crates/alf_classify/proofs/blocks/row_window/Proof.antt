@@ -1,6 +1,5 @@
 -- `alf_classify::blocks::row_window` meets its contract. Assumes nothing.
 use mathlib.Core.Path.{refl, _∙_}
-use mathlib.Core.Bool.{true}
 use mathlib.Core.List.{[]}
 use borrow.Author.Needs.{needs}
 use Rattle.alf_boundary.specs.Clips.{axisOf}
@@ -10,7 +9,7 @@ use Rattle.alf_classify.proofs.blocks.row_window.Tie as tie
 returns : tie.Need-returns
 returns c =
     let a = c .before .before .args in
-    let line = c .before .line-rule .ensures (axisOf (a .height) (a .ctb) [] true 1) refl refl in
+    let line = c .before .line-rule .ensures (axisOf (a .height) (a .ctb) [] 4 1) refl refl in
     c .window-rows .ensures ∙ rw line
 
 pub row-window-spec : {M : Type 1} → statement M

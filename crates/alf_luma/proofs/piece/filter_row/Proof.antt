@@ -1,6 +1,5 @@
 -- `alf_luma::piece::filter_row` meets its contract. Assumes nothing.
 use mathlib.Core.Path.{_≡_, refl}
-use mathlib.Core.Bool.{true}
 use mathlib.Core.List.{[]}
 use Prim.Native.Nat.{_<_}
 use native.Mathlib.Nat.{mod-lt}
@@ -21,7 +20,7 @@ start c = c .before .before .before .before .before .before
 rows-are : (c : tie.After-luma-rows) → let a = start c .args in c .luma-rows .result ≡ rowsAt (a .picture .height) (a .grid .ctb) (a .y)
 rows-are c =
     let a = start c .args in
-    rw (c .before .before .before .line-rule .ensures (axisOf (a .picture .height) (a .grid .ctb) [] true 1) refl refl) at (c .luma-rows .ensures)
+    rw (c .before .before .before .line-rule .ensures (axisOf (a .picture .height) (a .grid .ctb) [] 4 1) refl refl) at (c .luma-rows .ensures)
 
 offsets : (c : tie.After-luma-rows) → Rising (c .luma-rows .result)
 offsets c = rw (rows-are c) (rising _ _)

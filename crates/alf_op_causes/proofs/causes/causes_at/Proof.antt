@@ -1,9 +1,11 @@
 -- `alf_op_causes::causes::causes_at` meets its contract: the rule, once for each side. Assumes nothing.
-use Prim.Native.Nat.{_<_}
+use Prim.Native.Nat.{_*_, _/_, _<_}
+use native.Mathlib.Nat.{div-mul-le-self}
+use native.Mathlib.Omega.{arith}
 use borrow.Author.Needs.{needs}
 use Rattle.alf_spec.specs.Input.{Layout, layoutOf}
 use Rattle.alf_spec.proofs.Accepted.{Accepted, accepted-position}
-use Rattle.alf_boundary.specs.Clips.{Bounded}
+use Rattle.alf_boundary.specs.Clips.{InCtb}
 use Rattle.alf_op_causes.proofs.Positions.{in-grid, bounded, causes-are}
 use Rattle.alf_op_causes.proofs.causes.causes_at.Statement.{statement}
 use Rattle.alf_op_causes.proofs.causes.causes_at.Tie as tie
@@ -23,7 +25,8 @@ abbrev start : tie.After-grid → tie.Start
 start c = c .before .before .before .before .before .before .before .before
 
 -- the position is small enough for the rule
-small : (c : tie.After-grid) → Bounded (c .grid .result .ctb) (start c .args .x) × Bounded (c .grid .result .ctb) (start c .args .y)
+small : (c : tie.After-grid) → let ctb = c .grid .result .ctb in
+    InCtb (start c .args .x / ctb * ctb) ctb 0 (start c .args .x) × InCtb (start c .args .y / ctb * ctb) ctb 4 (start c .args .y)
 small c =
     let s = start c in
     let ok = accepted s in
@@ -34,10 +37,11 @@ returns c =
     let left = c .before in
     let bottom = left .before in
     let top = bottom .before in
-    let g : tie.After-grid = search needs in
+    let known = top .before .before .before .before .before in
+    let g = known .before .before .before in
     let s = start g in
     let ok = accepted s in
-    let sides = top .before .sides-of .ensures (s .args .virtual-columns .now) (s .args .virtual-rows .now) in
+    let sides = known .sides-of .ensures (s .args .virtual-columns .now) (s .args .virtual-rows .now) in
     let width = s .args .picture .width in
     let height = s .args .picture .height in
     causes-are (layout s) (ok .0) (g .grid .ensures) (s .args .x) (s .args .y) (ok .1) (ok .2) sides
@@ -55,6 +59,8 @@ causes-at-spec =
     let s = start g in
     let ok = accepted s in
     in-grid (layout s) (ok .0) (g .grid .ensures) (s .args .x) (s .args .y) (ok .1) (ok .2))
+    (λ c. let g : tie.After-grid = search needs in omega (arith, small g .0 .2, div-mul-le-self (start g .args .x) (g .grid .result .ctb)))
+    (λ c. let g : tie.After-grid = search needs in omega (arith, small g .1 .2, div-mul-le-self (start g .args .y) (g .grid .result .ctb)))
     (λ c κs. let g : tie.After-grid = search needs in small g .1)
     (λ c κs. let g : tie.After-grid = search needs in small g .1)
     (λ c κs. let g : tie.After-grid = search needs in small g .0)

@@ -19,7 +19,7 @@ use Rattle.alf_boundary.specs.Tables.{TablesOf}
 use Rattle.alf_pieces.specs.declared.pieces.Piece.{Piece}
 use Rattle.alf_pieces.specs.Pieces.{PieceIn}
 use Rattle.alf_pieces.specs.Copies.{pitch}
-use Rattle.alf_pieces.proofs.PieceWalk.{walk-start, turn, columns-regular, rows-regular}
+use Rattle.alf_pieces.proofs.PieceWalk.{walk-none, walk-luma, walk-start, turn, columns-regular, rows-regular}
 use Rattle.worked_examples.proofs.positions.show_corner.Statement.{statement}
 use Rattle.worked_examples.proofs.positions.show_corner.Tie as tie
 
@@ -81,7 +81,7 @@ last-columns : (c : tie.After-column-piece) → Last (c .column-piece .result)
 last-columns c =
     let g : tie.After-grid = search needs in
     let h = g .grid .ensures in
-    let t = turn (columns-regular h sizes log2 no-boundaries 1) whole (h .ctbHigh) (walk-start {x = 32} (omega (arith, side _ h)) (omega (arith, side _ h)))
+    let t = turn (columns-regular h sizes log2 no-boundaries 1) whole walk-none (h .ctbHigh) (walk-start {x = 32} (omega (arith, side _ h)) (omega (arith, side _ h)))
     (omega (arith, side _ h)) (c .column-piece .ensures) in
     record { is = t .facts .numbers; begins = t .start }
 
@@ -89,7 +89,7 @@ last-rows : (c : tie.After-row-piece) → Last (c .row-piece .result)
 last-rows c =
     let g : tie.After-grid = search needs in
     let h = g .grid .ensures in
-    let t = turn (rows-regular h sizes log2 no-boundaries 1) whole (h .ctbHigh) (walk-start {x = 32} (omega (arith, side _ h)) (omega (arith, side _ h)))
+    let t = turn (rows-regular h sizes log2 no-boundaries 4 1) whole walk-luma (h .ctbHigh) (walk-start {x = 32} (omega (arith, side _ h)) (omega (arith, side _ h)))
     (omega (arith, side _ h)) (c .row-piece .ensures) in
     record { is = t .facts .numbers; begins = t .start }
 
@@ -114,10 +114,16 @@ show-corner-spec =
     (g .ensures, tables (g .result) (g .ensures), omega arith, omega arith))
     (λ c. search needs)
     (λ c. search needs)
-    (λ c κs. search needs)
+    (λ c κs.
+    let g : tie.After-grid = search needs in
+    let h = g .grid .ensures in
+    (h, omega arith, omega arith, omega arith, omega arith, omega (arith, side _ h)))
     (λ c. search needs)
     (λ c. search needs)
-    (λ c κs. search needs)
+    (λ c κs.
+    let g : tie.After-grid = search needs in
+    let h = g .grid .ensures in
+    (h, omega arith, omega arith, omega arith, omega arith, omega arith, omega (arith, side _ h)))
     (λ c. search needs)
     (λ c κs. search needs)
     (λ c. search needs)
