@@ -1,6 +1,6 @@
 -- A filtered sample of a piece, from the piece's copy, is that of the picture. Assumes nothing.
-use mathlib.Core.Path.{_≡_, ap, _∙_}
-use mathlib.Core.Bool.{true}
+use mathlib.Core.Path.{_≡_, refl, ap, _∙_}
+use mathlib.Core.Bool.{Bool, true, _&&_}
 use mathlib.Core.List.{List, [], _∷_, map}
 use Prim.Native.Nat.{ℕ, _+_, _-_, _*_, _/_, _%_, _≤_, _<_}
 use native.Mathlib.Omega.{arith}
@@ -16,8 +16,11 @@ use Rattle.alf_spec.specs.Input.{Layout, Input}
 use Rattle.alf_spec.specs.Geometry.{subWidth, subHeight, planeOf, chromaPlane, samples, ctbAt, lineRule, bottomDistance}
 use Rattle.alf_spec.specs.Boundary.{columnSide, rowSide}
 use Rattle.alf_spec.specs.Arithmetic.{filtered}
-use Rattle.alf_spec.specs.Chroma.{chromaPlus, chromaMinus, chromaRead, chromaWith, chromaSample}
+use Rattle.alf_spec.specs.Chroma.{chromaRows, chromaPlus, chromaMinus, chromaRowsAt, chromaRead, chromaWith, chromaSample}
 use Rattle.alf_spec.specs.Process.{atIndex}
+use Rattle.alf_spec.proofs.Tests.{cond-either}
+use Rattle.alf_spec.proofs.Axes.{Regular}
+use Rattle.alf_spec.proofs.LineCrossing.{chroma-read}
 use Rattle.alf_spec.proofs.IsolatedRegions.Ratios.{chroma-ratios}
 use Rattle.alf_spec.proofs.IsolatedRegions.TapPositions.{ChromaOffsets, chroma-offsets}
 use Rattle.alf_math.specs.Grids.{GridOf}
@@ -26,24 +29,32 @@ use Rattle.alf_lists.specs.Regions.{between, inRect}
 use Rattle.alf_pieces.specs.Pieces.{PieceOf, CtbOf}
 use Rattle.alf_pieces.specs.Copies.{extent, pitch, copyLength, copyAt}
 use Rattle.alf_lists.proofs.Regions.{Inside, rect-facts}
-use Rattle.alf_pieces.proofs.CtbPieces.{column-facts, row-facts}
+use Rattle.alf_pieces.proofs.CtbPieces.{regular-down, column-facts, row-facts}
+use Rattle.alf_pieces.proofs.PieceWalk.{walk-none}
 use Rattle.alf_pieces.proofs.CopyReads.{own-ctb}
 use Rattle.alf_pieces.proofs.CopyHolds.{copy-holds}
 use Rattle.alf_pieces.proofs.CopySamples.{chroma-in}
 use Rattle.alf_taps.proofs.SpreadTaps.{taps-same}
 use Rattle.alf_chroma.specs.Samples.{copyPlus, copyMinus, copySample, pieceSample}
 use Rattle.alf_params.specs.Filters.{ChromaFilter}
-use Rattle.alf_chroma.specs.Pieces.{Spread, copyChromaAt}
+use Rattle.alf_chroma.specs.Pieces.{Spread, unlinedPlane, copyChromaAt}
 
 -- the columns of the plane, as code has them
 pub columns-wide : (l : Layout) {p : Picture} {ratio : ℕ} → l .picture ≡ p → ratio ≡ subWidth p → samples (chromaPlane l .columns) ≡ p .width / ratio
 unfolding planeOf
 columns-wide l e r = rw (e, r)
 
+-- Table 46: the farther row is the second
+row-order : (line : Bool) (d : ℕ) → chromaRows line d .y1 ≤ chromaRows line d .y2
+unfolding chromaRows
+row-order line d =
+    let ordered : (ChromaRows → Type 0) = λ r. r .y1 ≤ r .y2 in
+    cond-either ordered (line && _) _ _ (omega arith) (cond-either ordered (line && _) _ _ (omega arith) (omega arith))
+
 -- an input, a piece of a CTB of it, and the piece's copy
 module _ (i : Input) {p : Picture} {c : Ctb} {s : Sides} (ctb : CtbOf (i .layout) p c s) {columns rows : Piece}
-    (across : PieceOf (chromaPlane (i .layout) .columns) (columnSide (i .layout) c) (c .column) columns)
-    (down : PieceOf (chromaPlane (i .layout) .rows) (rowSide (i .layout) c) (c .row) rows)
+    (across : PieceOf (unlinedPlane (i .layout) .columns) (columnSide (i .layout) c) (c .column) columns)
+    (down : PieceOf (unlinedPlane (i .layout) .rows) (rowSide (i .layout) c) (c .row) rows)
     (copy copy0 : List ℕ) {width : ℕ} (wide : samples (chromaPlane (i .layout) .columns) ≡ width)
     (copies : copy ≡ painted copy0 (between 0 (copyLength columns rows)) (copyAt columns rows s (i .chroma) width))
     (room : copyLength columns rows ≤ length copy0) (component : ℕ) where
@@ -56,17 +67,30 @@ module _ (i : Input) {p : Picture} {c : Ctb} {s : Sides} (ctb : CtbOf (i .layout
     abbrev row : ℕ
     row = y - rows .start
 
+    -- it lies in the plane
+    in-plane : y < samples (chromaPlane (i .layout) .rows)
+    unfolding planeOf
+    in-plane =
+        let l = i .layout in
+        let numbers = row-facts ctb (subWidth (l .picture)) (subHeight (l .picture)) 0 (chroma-ratios (l .picture) .1) walk-none down .numbers in
+        omega (arith, numbers .high, numbers .inside)
+
+    regular : Regular (chromaPlane (i .layout) .rows)
+    regular = regular-down ctb (subWidth (i .layout .picture)) (subHeight (i .layout .picture)) (2 * subHeight (i .layout .picture))
+
     -- its neighbour at (u, v), which stands in row j of the copy; the sample stands at m = 3
     neighbour : (u v m j : ℕ) → (1 ≤ m) × (m ≤ 5) × (row + 1 ≤ j) × (j ≤ row + 5) × (u ≡ x + m - 3) × (v ≡ rows .start + j - 3)
+        → y ≤ v + chromaRowsAt i component x y .y2 → v ≤ y + chromaRowsAt i component x y .y2
         → chromaRead i component x y (u, v) ≡ getD copy (j * pitch columns + column + m) 0
     unfolding planeOf
-    neighbour u v m j h =
+    neighbour u v m j h low high =
         let l = i .layout in
         let ratios = chroma-ratios (l .picture) in
-        copy-holds ctb (subWidth (l .picture)) (subHeight (l .picture)) (ratios .0) (ratios .1) across down (i .chroma) copy copy0 wide copies room
+        chroma-read i regular component x y in-plane u v low high
+        ∙ copy-holds ctb (subWidth (l .picture)) (subHeight (l .picture)) 0 (ratios .0) (ratios .1) walk-none across down (i .chroma) copy copy0 wide copies room
         x y u v (column + m) j
-        (chroma-in (chromaPlane l .columns) columns x u (ratios .0) left right (omega arith) (omega arith))
-        (chroma-in (chromaPlane l .rows) rows y v (ratios .1) top bottom (omega arith) (omega arith))
+        (chroma-in (unlinedPlane l .columns) columns x u (ratios .0) left right (omega arith) (omega arith))
+        (chroma-in (unlinedPlane l .rows) rows y v (ratios .1) top bottom (omega arith) (omega arith))
         (omega arith) (omega arith) (omega arith) (omega arith)
         ∙ ap (λ (k : ℕ). getD copy k 0) (omega arith)
 
@@ -76,43 +100,47 @@ module _ (i : Input) {p : Picture} {c : Ctb} {s : Sides} (ctb : CtbOf (i .layout
     own =
         let l = i .layout in
         let ratios = chroma-ratios (l .picture) in
-        own-ctb l c s (ctb .sides) (subWidth (l .picture)) (subHeight (l .picture)) columns rows
-        (column-facts ctb (subWidth (l .picture)) (subHeight (l .picture)) (ratios .0) across)
-        (row-facts ctb (subWidth (l .picture)) (subHeight (l .picture)) (ratios .1) down) x y x y
-        (chroma-in (chromaPlane l .columns) columns x x (ratios .0) left right (omega arith) (omega arith))
-        (chroma-in (chromaPlane l .rows) rows y y (ratios .1) top bottom (omega arith) (omega arith))
+        own-ctb l c s (ctb .sides) (subWidth (l .picture)) (subHeight (l .picture)) 0 columns rows
+        (column-facts ctb (subWidth (l .picture)) (subHeight (l .picture)) 0 (ratios .0) across)
+        (row-facts ctb (subWidth (l .picture)) (subHeight (l .picture)) 0 (ratios .1) walk-none down) x y x y
+        (chroma-in (unlinedPlane l .columns) columns x x (ratios .0) left right (omega arith) (omega arith))
+        (chroma-in (unlinedPlane l .rows) rows y y (ratios .1) top bottom (omega arith) (omega arith))
 
     -- with the rows of Table 46
-    module _ (r : ChromaRows) (near : ChromaOffsets r) where
+    module _ (r : ChromaRows) (near : ChromaOffsets r) (order : r .y1 ≤ r .y2) (is : r ≡ chromaRowsAt i component x y) where
       -- where row j of the copy begins
       abbrev at : ℕ → ℕ
       at j = j * pitch columns
 
+      -- how far they reach
+      reach : r .y2 ≡ chromaRowsAt i component x y .y2
+      reach = ap (λ (r : ChromaRows). r .y2) is
+
       here : chromaRead i component x y (x, y) ≡ getD copy (at (row + 3) + column + 3) 0
-      here = neighbour x y 3 (row + 3) (omega arith)
+      here = neighbour x y 3 (row + 3) (omega arith) (omega arith) (omega arith)
 
       plus-same : map (chromaRead i component x y) (chromaPlus x y r)
           ≡ copyPlus copy (at (row + 3)) (at (row + 3 + r .y1)) (at (row + 3 + r .y2)) column
       unfolding chromaPlus copyPlus
       plus-same =
-          let e0 = neighbour x (y + r .y2) 3 (row + 3 + r .y2) (omega arith) in
-          let e1 = neighbour (x + 1) (y + r .y1) 4 (row + 3 + r .y1) (omega arith) in
-          let e2 = neighbour x (y + r .y1) 3 (row + 3 + r .y1) (omega arith) in
-          let e3 = neighbour (x - 1) (y + r .y1) 2 (row + 3 + r .y1) (omega arith) in
-          let e4 = neighbour (x + 2) y 5 (row + 3) (omega arith) in
-          let e5 = neighbour (x + 1) y 4 (row + 3) (omega arith) in
+          let e0 = neighbour x (y + r .y2) 3 (row + 3 + r .y2) (omega arith) (omega (arith, reach)) (omega (arith, reach)) in
+          let e1 = neighbour (x + 1) (y + r .y1) 4 (row + 3 + r .y1) (omega arith) (omega (arith, reach)) (omega (arith, reach)) in
+          let e2 = neighbour x (y + r .y1) 3 (row + 3 + r .y1) (omega arith) (omega (arith, reach)) (omega (arith, reach)) in
+          let e3 = neighbour (x - 1) (y + r .y1) 2 (row + 3 + r .y1) (omega arith) (omega (arith, reach)) (omega (arith, reach)) in
+          let e4 = neighbour (x + 2) y 5 (row + 3) (omega arith) (omega (arith, reach)) (omega (arith, reach)) in
+          let e5 = neighbour (x + 1) y 4 (row + 3) (omega arith) (omega (arith, reach)) (omega (arith, reach)) in
           λ t. e0 t ∷ e1 t ∷ e2 t ∷ e3 t ∷ e4 t ∷ e5 t ∷ []
 
       minus-same : map (chromaRead i component x y) (chromaMinus x y r)
           ≡ copyMinus copy (at (row + 3 - r .y2)) (at (row + 3 - r .y1)) (at (row + 3)) column
       unfolding chromaMinus copyMinus
       minus-same =
-          let e0 = neighbour x (y - r .y2) 3 (row + 3 - r .y2) (omega arith) in
-          let e1 = neighbour (x - 1) (y - r .y1) 2 (row + 3 - r .y1) (omega arith) in
-          let e2 = neighbour x (y - r .y1) 3 (row + 3 - r .y1) (omega arith) in
-          let e3 = neighbour (x + 1) (y - r .y1) 4 (row + 3 - r .y1) (omega arith) in
-          let e4 = neighbour (x - 2) y 1 (row + 3) (omega arith) in
-          let e5 = neighbour (x - 1) y 2 (row + 3) (omega arith) in
+          let e0 = neighbour x (y - r .y2) 3 (row + 3 - r .y2) (omega arith) (omega (arith, reach)) (omega (arith, reach)) in
+          let e1 = neighbour (x - 1) (y - r .y1) 2 (row + 3 - r .y1) (omega arith) (omega (arith, reach)) (omega (arith, reach)) in
+          let e2 = neighbour x (y - r .y1) 3 (row + 3 - r .y1) (omega arith) (omega (arith, reach)) (omega (arith, reach)) in
+          let e3 = neighbour (x + 1) (y - r .y1) 4 (row + 3 - r .y1) (omega arith) (omega (arith, reach)) (omega (arith, reach)) in
+          let e4 = neighbour (x - 2) y 1 (row + 3) (omega arith) (omega (arith, reach)) (omega (arith, reach)) in
+          let e5 = neighbour (x - 1) y 2 (row + 3) (omega arith) (omega (arith, reach)) (omega (arith, reach)) in
           λ t. e0 t ∷ e1 t ∷ e2 t ∷ e3 t ∷ e4 t ∷ e5 t ∷ []
 
       with-same : {filters taps : List ℤ} → ChromaFilter i c component filters → Spread filters 6 (extent columns) taps
@@ -137,4 +165,4 @@ module _ (i : Input) {p : Picture} {c : Ctb} {s : Sides} (ctb : CtbOf (i .layout
       let f : Inside (q .width / subWidth q) (columns .start) (columns .end) (rows .start) (rows .end) k =
       rw (ctb .picture) (rect-facts (p .width / subWidth p) (columns .start) (columns .end) (rows .start) (rows .end) k t) in
       rw (grid .ctb, ← (ctb .picture))
-      (with-same (k % (q .width / subWidth q)) (k / (q .width / subWidth q)) (f .0) (f .1) (f .2) (f .3) _ (chroma-offsets _ _) F S)
+      (with-same (k % (q .width / subWidth q)) (k / (q .width / subWidth q)) (f .0) (f .1) (f .2) (f .3) _ (chroma-offsets _ _) (row-order _ _) refl F S)

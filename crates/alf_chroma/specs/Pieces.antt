@@ -8,7 +8,8 @@ use lib.ListN.{length, getD}
 use Rattle.alf_spec.specs.declared.ChromaRows.{ChromaRows}
 use Rattle.alf_spec.specs.declared.Grid.{Grid}
 use Rattle.alf_spec.specs.declared.Picture.{Picture}
-use Rattle.alf_spec.specs.Geometry.{subWidth, subHeight, lumaPosition, lineRule, bottomDistance}
+use Rattle.alf_spec.specs.Input.{Layout}
+use Rattle.alf_spec.specs.Geometry.{Plane, subWidth, subHeight, planeOf, lumaPosition, lineRule, bottomDistance}
 use Rattle.alf_spec.specs.Chroma.{chromaRows}
 use Rattle.alf_spec.specs.Faults.{pictureSizeValid, ctbSizeValid, bitDepthValid}
 use Rattle.alf_math.specs.Grids.{GridOf}
@@ -57,12 +58,18 @@ pub record RowsWork (p : Picture) (g : Grid) (columns rows : Piece) (copy : List
   pub numbers : TapNumbers taps
   pub outputLength : output ≡ (p .width / subWidth p) * (p .height / subHeight p)
 
+-- ---- the plane whose pieces are filtered
+
+-- the chroma plane without its line: no tap reads across it (`LineCrossing`), so that pieces go on over it
+abbrev pub unlinedPlane : Layout → Plane
+unlinedPlane l = planeOf l (subWidth (l .picture)) (subHeight (l .picture)) 0
+
 -- ---- samples
 
 -- Table 46 at row y of a plane, where `ratio` rows of luma are one of the plane's
 abbrev pub rowsAt : ℕ → ℕ → ℕ → ℕ → ChromaRows
 rowsAt height ctb ratio y =
-    let a = axisOf height ctb [] true ratio in
+    let a = axisOf height ctb [] 0 ratio in
     chromaRows (lineRule a (lumaPosition a y)) (bottomDistance a y)
 
 -- the filtered sample at index k of the plane, from the copy of the piece in which it lies

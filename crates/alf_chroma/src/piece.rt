@@ -16,7 +16,7 @@ ghost use Rattle.alf_pieces.specs.Pieces.{PieceIn, PieceOf, CtbOf};
 ghost use Rattle.alf_taps.specs.Spread.{TapNumbers};
 ghost use Rattle.alf_chroma.specs.Samples.{pieceSampleFrom};
 ghost use Rattle.alf_params.specs.Filters.{ChromaFilter};
-ghost use Rattle.alf_chroma.specs.Pieces.{Spread, RowsWork, ChromaWork, copyChromaAt};
+ghost use Rattle.alf_chroma.specs.Pieces.{Spread, RowsWork, ChromaWork, unlinedPlane, copyChromaAt};
 use crate::kernel::chroma_row;
 use crate::rows::rows_at;
 use alf_lists::fill;
@@ -132,7 +132,7 @@ fn filter_rows(
 }
 
 // The filtered samples of a piece: those of every input in which a CTB has these sides and this filter, and the piece is one of its pieces. The
-// pieces are in the samples of the component's plane; a filter is 6 coefficients and then 6 clips.
+// pieces are in the samples of the component's plane and go on over the line, which no tap reads across; a filter is 6 coefficients and then 6 clips.
 pub fn filter_piece(
     picture: Picture,
     grid: Grid,
@@ -149,8 +149,8 @@ pub fn filter_piece(
         × (PieceIn (picture .width / subWidth picture) columns) × (PieceIn (picture .height / subHeight picture) rows) ⌝ }
     ensures { λ _. ⌜ (((i : Input) (c : Ctb) (component : ℕ) → CtbOf (i .layout) picture c sides → i .chroma ≡ now (chroma .entry)
         → ChromaFilter i c component (now (filters .entry))
-        → PieceOf (chromaPlane (i .layout) .columns) (columnSide (i .layout) c) (c .column) columns
-        → PieceOf (chromaPlane (i .layout) .rows) (rowSide (i .layout) c) (c .row) rows
+        → PieceOf (unlinedPlane (i .layout) .columns) (columnSide (i .layout) c) (c .column) columns
+        → PieceOf (unlinedPlane (i .layout) .rows) (rowSide (i .layout) c) (c .row) rows
         → now (output .exit) ≡ painted (now (output .entry))
         (inRect (picture .width / subWidth picture) (columns .start) (columns .end) (rows .start) (rows .end))
         (atIndex (chromaPlane (i .layout)) (chromaSample i component)))

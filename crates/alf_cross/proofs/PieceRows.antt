@@ -119,7 +119,7 @@ module _ (p : Picture) {columns rows : Piece} (across : BlockPiece (p .width) co
     (low : rows .start / subHeight p ≤ v) (high : v < rows .end / subHeight p) where
   -- its luma row lies in the piece
   pub luma-row : (rows .start ≤ v * subHeight p) × (v * subHeight p < rows .end)
-  luma-row = (le-own (subHeight p) (chroma-ratios p .1) (rows .start) v (down .start4) low, lt-own (subHeight p) (rows .end) v high)
+  luma-row = (le-own (subHeight p) (chroma-ratios p .1) (rows .start) v (omega (arith, down .start4)) low, lt-own (subHeight p) (rows .end) v high)
 
   -- its samples have a place in the plane
   pub row-fits : v * (p .width / subWidth p) + columns .start / subWidth p + extent columns / subWidth p

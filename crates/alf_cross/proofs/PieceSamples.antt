@@ -30,6 +30,7 @@ use Rattle.alf_pieces.specs.Pieces.{PieceOf, CtbOf}
 use Rattle.alf_pieces.specs.Copies.{extent, pitch, copyLength, copyAt}
 use Rattle.alf_lists.proofs.Regions.{Inside, rect-facts}
 use Rattle.alf_pieces.proofs.CtbPieces.{column-facts, row-facts}
+use Rattle.alf_pieces.proofs.PieceWalk.{walk-luma}
 use Rattle.alf_pieces.proofs.CopyHolds.{copy-holds}
 use Rattle.alf_pieces.proofs.CopySamples.{luma-in}
 use Rattle.alf_cross.specs.Taps.{Split}
@@ -69,7 +70,7 @@ module _ {i : Input} {p : Picture} {c : Ctb} {s : Sides} (ctb : CtbOf (i .layout
     read-same u v a b near place =
         let wide : i .layout .picture .width / 1 ≡ p .width = rw (ctb .picture) (div-one (p .width)) in
         let split : Split copy split (pitch columns) (subWidth (i .layout .picture)) (pitch rows) = rw (ctb .picture) isSplit in
-        copy-holds ctb 1 1 whole whole across down (i .luma) copy copy0 wide (rw (← isLuma) at copies) room x y u v a b
+        copy-holds ctb 1 1 4 whole whole walk-luma across down (i .luma) copy copy0 wide (rw (← isLuma) at copies) room x y u v a b
         (luma-in (lumaPlane (i .layout) .columns) columns x u refl (omega arith) (omega arith) (near .0) (near .1))
         (luma-in (lumaPlane (i .layout) .rows) rows y v refl (omega arith) (omega arith) (near .2) (near .3))
         (place .0) (place .1) (place .2) (place .3) ∙ sym (split .row b (place .3) .same a (place .2))
@@ -107,8 +108,8 @@ module _ {i : Input} {p : Picture} {c : Ctb} {s : Sides} (ctb : CtbOf (i .layout
     own-ctb : (x′ y′ : ℕ) → x′ * subWidth (i .layout .picture) ≡ x → y′ * subHeight (i .layout .picture) ≡ y → ctbAt (chromaPlane (i .layout)) x′ y′ ≡ c
     unfolding planeOf
     own-ctb x′ y′ ex ey =
-        let inColumns = column-facts ctb 1 1 whole across in
-        let inRows = row-facts ctb 1 1 whole down in
+        let inColumns = column-facts ctb 1 1 4 whole across in
+        let inRows = row-facts ctb 1 1 4 whole walk-luma down in
         rw (
           ex,
           ey,
@@ -129,8 +130,8 @@ module _ {i : Input} {p : Picture} {c : Ctb} {s : Sides} (ctb : CtbOf (i .layout
       let f : Inside W (columns .start / subWidth q) (columns .end / subWidth q) (rows .start / subHeight q) (rows .end / subHeight q) k =
       rw (ctb .picture) (rect-facts (p .width / subWidth p) (columns .start / subWidth p) (columns .end / subWidth p) (rows .start / subHeight p)
       (rows .end / subHeight p) k t) in
-      let inColumns = column-facts ctb 1 1 whole across in
-      let inRows = row-facts ctb 1 1 whole down in
+      let inColumns = column-facts ctb 1 1 4 whole across in
+      let inRows = row-facts ctb 1 1 4 whole walk-luma down in
       let x : ℕ = k % W * subWidth q in
       let y : ℕ = k / W * subHeight q in
       let left : columns .start ≤ x = le-own (subWidth q) (chroma-ratios q .0) (columns .start) (k % W) (omega (arith, inColumns .start4)) (f .0) in

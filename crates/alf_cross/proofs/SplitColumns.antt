@@ -1,20 +1,16 @@
 -- The split copy: where a column stands, and how the part that is split grows, by two columns or by a row. Assumes nothing.
-use mathlib.Core.Path.{_≡_, subst, ap, _∙_}
+use mathlib.Core.Path.{_≡_, subst, _∙_}
 use mathlib.Core.List.{List}
 use mathlib.Core.Logic.{_⊎_, inl, inr, ⊎-elim, _≢_}
 use Prim.Native.Nat.{ℕ, _+_, _-_, _*_, _/_, _%_, _≤_, _<_}
-use native.Mathlib.Nat.{le-refl, mod-lt, div-add-mod', div-lt-iff-lt-mul, mul-le-mul-right}
+use native.Mathlib.Nat.{mod-lt, div-add-mod', div-lt-iff-lt-mul, mul-le-mul-right}
 use native.Mathlib.Omega.{arith}
 use lib.ListN.{length, getD, set, length-set}
 use lib.Seq.{getD-set-same, getD-set-other}
 use borrow.Author.Count.{below-more}
 use borrow.Author.Tests.{ne-eqb}
-use Rattle.alf_spec.specs.Lists.{painted}
 use Rattle.alf_spec.proofs.IsolatedRegions.Ratios.{Ratio, whole, half}
-use Rattle.alf_lists.specs.Regions.{between}
-use Rattle.alf_pieces.specs.Copies.{runAt}
-use Rattle.alf_lists.proofs.Painted.{paint-of, paint-in}
-use Rattle.alf_lists.proofs.Regions.{order, in-run, row-room}
+use Rattle.alf_lists.proofs.Regions.{order, row-room}
 use Rattle.alf_cross.specs.Taps.{splitPlace, SplitRow, Split}
 use Rattle.alf_cross.specs.Work.{SmallCopy}
 
@@ -100,17 +96,9 @@ rows-more {pitch = pitch} {j = j} wide r s kept = record {
 
 -- ---- all rows as they are
 
-pub plain-copy : {copy split : List ℕ} (old : List ℕ) (pitch step rows : ℕ) → step ≢ 2 → rows * pitch ≤ length old
-    → split ≡ painted old (between 0 (rows * pitch)) (runAt copy 0 0) → Split copy split pitch step rows
-unfolding splitPlace runAt
-plain-copy {copy} old pitch step rows ne room e = record {
-  row = λ j h. record {
-    same = λ c l.
-        let all = row-room j rows pitch (rows * pitch) h (le-refl _) in
-        rw (ne-eqb step 2 ne) (paint-in (paint-of e) (j * pitch + c) (omega arith) (in-run 0 (rows * pitch) (j * pitch + c) (omega arith))
-        ∙ ap (λ (n : ℕ). getD copy n 0) (omega arith));
-  };
-}
+pub unsplit : (copy : List ℕ) (pitch step rows : ℕ) → step ≢ 2 → Split copy copy pitch step rows
+unfolding splitPlace
+unsplit copy pitch step rows ne = record { row = λ j h. record { same = λ c l. rw (ne-eqb step 2 ne) } }
 
 -- ---- the entries are samples
 

@@ -52,7 +52,7 @@ pub record CrossFilter (i : Input) (c : Ctb) (component : ℕ) (filters : List �
 
 -- Table 47 at luma row y
 abbrev pub rowOffsets : ℕ → ℕ → ℕ → CrossRows
-rowOffsets height ctb y = crossRows (lineRule (axisOf height ctb [] true 1) y) (ctb - y % ctb)
+rowOffsets height ctb y = crossRows (lineRule (axisOf height ctb [] 4 1) y) (ctb - y % ctb)
 
 -- the sample at column i and row j of the copy, from the split copy
 abbrev pub splitRead : List ℕ → Piece → ℕ → ℕ × ℕ → ℕ

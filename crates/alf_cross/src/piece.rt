@@ -15,7 +15,7 @@ ghost use Rattle.alf_pieces.specs.Copies.{extent as extentOf, copyLength};
 ghost use Rattle.alf_cross.specs.Work.{ChromaWork, CrossWork, SmallCopy, CrossFilter, splitCrossAt};
 use crate::rows::offset_row;
 use crate::rows::row_offsets;
-use crate::split::split_copy;
+use crate::split::split_rows;
 use alf_math::grid::sub_height;
 use alf_math::grid::sub_width;
 use alf_pieces::copies::copy_piece;
@@ -107,7 +107,8 @@ fn piece_rows(
     }
 }
 
-// The piece's samples: those of every input in which a CTB has these sides, the piece is one of its pieces, and the coefficients are the CTB's.
+// The piece's samples: those of every input in which a CTB has these sides, the piece is one of its pieces, and the coefficients are the CTB's. The
+// columns of its copy are split where each chroma sample has two; else neighbours stand side by side already.
 pub fn filter_piece(
     picture: Picture,
     grid: Grid,
@@ -133,12 +134,10 @@ pub fn filter_piece(
         (atIndex (chromaPlane (i .layout)) (crossSample i component))) ⌝ }
 {
     copy_piece(luma, picture.width as usize, columns, rows, sides, copy);
-    split_copy(
-        copy,
-        extent(columns) + 6,
-        extent(rows) + 6,
-        sub_width(picture),
-        split,
-    );
-    piece_rows(picture, grid, columns, rows, split, chroma, filters, output);
+    if sub_width(picture) == 2 {
+        split_rows(copy, extent(columns) + 6, extent(rows) + 6, split);
+        piece_rows(picture, grid, columns, rows, split, chroma, filters, output);
+    } else {
+        piece_rows(picture, grid, columns, rows, copy, chroma, filters, output);
+    }
 }

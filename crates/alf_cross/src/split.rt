@@ -1,9 +1,8 @@
-// The copy of a piece with its columns split: the taps of neighbouring chroma samples then read neighbouring places.
+// The copy of a piece with its columns split, for planes of half the width: the taps of neighbouring chroma samples then read neighbouring places.
 ghost use mathlib.Core.Path.{_≡_};
 ghost use Prim.Native.Nat.{ℕ, _+_, _*_, _%_, _≤_, _<_};
 ghost use lib.ListN.{length, getD};
 ghost use Rattle.alf_cross.specs.Taps.{splitPlace, SplitRow, Split};
-use alf_pieces::copies::copy_run;
 
 // Where column c of the copy stands in its row of the split copy.
 pub(crate) fn column_place(pitch: usize, step: usize, c: usize) -> usize
@@ -32,8 +31,8 @@ fn split_row(copy: &[u16], pitch: usize, at: usize, split: &mut [u16])
     }
 }
 
-// Its rows.
-fn split_rows(copy: &[u16], pitch: usize, rows: usize, split: &mut [u16])
+// The copy's rows.
+pub(crate) fn split_rows(copy: &[u16], pitch: usize, rows: usize, split: &mut [u16])
     requires { ⌜ (pitch % 2 ≡ 0) × (rows * pitch ≤ length (now copy)) × (rows * pitch ≤ length (now split)) ⌝ }
     ensures { λ _. ⌜ Split (now (copy .entry)) (now (split .exit)) pitch 2 rows ⌝ }
 {
@@ -41,17 +40,5 @@ fn split_rows(copy: &[u16], pitch: usize, rows: usize, split: &mut [u16])
     while j < rows {
         split_row(copy, pitch, j * pitch, split);
         j += 1;
-    }
-}
-
-// The copy, split where it has 2 columns for each chroma sample.
-pub(crate) fn split_copy(copy: &[u16], pitch: usize, rows: usize, step: u32, split: &mut [u16])
-    requires { ⌜ (pitch % 2 ≡ 0) × (rows * pitch ≤ length (now copy)) × (rows * pitch ≤ length (now split)) ⌝ }
-    ensures { λ _. ⌜ Split (now (copy .entry)) (now (split .exit)) pitch step rows ⌝ }
-{
-    if step == 2 {
-        split_rows(copy, pitch, rows, split);
-    } else {
-        copy_run(copy, 0, rows * pitch, split, 0);
     }
 }

@@ -1,6 +1,5 @@
 -- What each filter's function of a piece is given, and what it leaves, under the one name of the filters. Assumes nothing.
 use mathlib.Core.Path.{_≡_, refl, sym, ap, subst, _∙_}
-use mathlib.Core.Bool.{true, false}
 use mathlib.Core.List.{List}
 use Prim.Native.Nat.{ℕ, _/_}
 use native.Mathlib.Nat.{div-one}
@@ -25,7 +24,7 @@ use Rattle.alf_pieces.specs.Pieces.{scaled, PieceOf, PieceIn, BlockPiece, CtbOf
 use Rattle.alf_pieces.proofs.ScaledPieces.{scaled-piece}
 use Rattle.alf_params.specs.Filters.{LumaFilters, ChromaFilter}
 use Rattle.alf_luma.specs.Samples.{LumaWork}
-use Rattle.alf_chroma.specs.Pieces.{ChromaWork}
+use Rattle.alf_chroma.specs.Pieces.{ChromaWork, unlinedPlane}
 use Rattle.alf_cross.specs.Work.{CrossFilter, CrossWork}
 use Rattle.alf_ctb.specs.declared.Filter.{Filter}
 use Rattle.alf_ctb.specs.declared.Filter.the-variants.{Luma, Chroma, CrossComponent}
@@ -135,8 +134,8 @@ module _ (f : Filter) (p : Picture) (sides : Sides) (columns rows : Piece) (luma
   pub chroma-filtered : {component : ℕ} → f ≡ Chroma component → BlockPiece (p .width) columns → BlockPiece (p .height) rows
       → {columns′ rows′ : Piece} → columns′ ≡ scaled (subWidth p) columns → rows′ ≡ scaled (subHeight p) rows
       → ((i : Input) (c : Ctb) (component : ℕ) → CtbOf (i .layout) p c sides → i .chroma ≡ chroma → ChromaFilter i c component filters
-      → PieceOf (chromaPlane (i .layout) .columns) (columnSide (i .layout) c) (c .column) columns′
-      → PieceOf (chromaPlane (i .layout) .rows) (rowSide (i .layout) c) (c .row) rows′
+      → PieceOf (unlinedPlane (i .layout) .columns) (columnSide (i .layout) c) (c .column) columns′
+      → PieceOf (unlinedPlane (i .layout) .rows) (rowSide (i .layout) c) (c .row) rows′
       → new ≡ painted old (inRect (p .width / subWidth p) (columns′ .start) (columns′ .end) (rows′ .start) (rows′ .end))
       (atIndex (chromaPlane (i .layout)) (chromaSample i component)))
       → Named f
@@ -147,10 +146,10 @@ module _ (f : Filter) (p : Picture) (sides : Sides) (columns rows : Piece) (luma
       let width : subWidth p ≡ subWidth (l .picture) = ap subWidth (sym (of .picture)) in
       let height : subHeight p ≡ subHeight (l .picture) = ap subHeight (sym (of .picture)) in
       h i c component of same own
-      (rw (column, ← width) (scaled-piece (l .picture .width) (ctbSize (l .picture)) (l .virtualColumns) false (columnSide l c) (c .column) (subWidth p)
-      (boundary (subWidth p) (ratios .0) (columns .start) (wide .start4)) across))
-      (rw (row, ← height) (scaled-piece (l .picture .height) (ctbSize (l .picture)) (l .virtualRows) true (rowSide l c) (c .row) (subHeight p)
-      (boundary (subHeight p) (ratios .1) (rows .start) (high .start4)) down))
+      (rw (column, ← width) (scaled-piece (l .picture .width) (ctbSize (l .picture)) (l .virtualColumns) 0 (columnSide l c) (c .column) (subWidth p)
+      (boundary (subWidth p) (ratios .0) (columns .start) (omega (arith, wide .start4))) across))
+      (rw (row, ← height) (scaled-piece (l .picture .height) (ctbSize (l .picture)) (l .virtualRows) 0 (rowSide l c) (c .row) (subHeight p)
+      (boundary (subHeight p) (ratios .1) (rows .start) (omega (arith, high .start4))) down))
       ∙ (λ t. painted old (inRect (p .width / subWidth p) (column t .start) (column t .end) (row t .start) (row t .end))
       (atIndex (chromaPlane (i .layout)) (chromaSample i component))))
 

@@ -1,4 +1,4 @@
--- The ratios to luma of the planes that the filters write, and what a filter works in from one piece to the next. Assumes nothing.
+-- The ratios to luma of the planes that the filters write, the line that ends their pieces, and what a filter works in from one piece to the next. Assumes nothing.
 use mathlib.Core.Path.{_≡_, _∙_}
 use mathlib.Core.List.{List}
 use Prim.Native.Nat.{ℕ, _/_, _≤_}
@@ -6,16 +6,24 @@ use native.Mathlib.Omega.{arith}
 use lib.IntN.{ℤ}
 use Rattle.alf_spec.specs.declared.Picture.{Picture}
 use Rattle.alf_spec.proofs.IsolatedRegions.Ratios.{Ratio, whole, half, chroma-ratios}
+use Rattle.alf_pieces.specs.Pieces.{WalkLine}
+use Rattle.alf_pieces.proofs.PieceWalk.{walk-none, walk-luma}
 use Rattle.alf_taps.specs.Spread.{TapNumbers}
 use Rattle.alf_ctb.specs.declared.Filter.{Filter}
 use Rattle.alf_ctb.specs.declared.Filter.the-variants.{Luma, Chroma, CrossComponent}
-use Rattle.alf_ctb.specs.Filters.{columnRatio, rowRatio}
+use Rattle.alf_ctb.specs.Filters.{columnRatio, rowRatio, walkLine}
 use Rattle.alf_ctb.specs.Work.{Rooms}
 
 pub filter-ratios : (f : Filter) (p : Picture) → Ratio (columnRatio f p) × Ratio (rowRatio f p)
 filter-ratios Luma p = (whole, whole)
 filter-ratios (Chroma component) p = chroma-ratios p
 filter-ratios (CrossComponent component) p = chroma-ratios p
+
+-- a CTB's pieces are found with the line 4 rows up, or with none
+pub walks : (f : Filter) → WalkLine (walkLine f)
+walks Luma = walk-luma
+walks (Chroma component) = walk-none
+walks (CrossComponent component) = walk-luma
 
 -- positions in order, in the plane's own samples
 pub own-order : {r : ℕ} → Ratio r → (a b : ℕ) → a ≤ b → a / r ≤ b / r

@@ -5,8 +5,8 @@ use Prim.Native.Nat.{ℕ}
 use lib.IntN.{ℤ}
 use Rattle.alf_spec.specs.declared.Ctb.{Ctb}
 use Rattle.alf_spec.specs.declared.Picture.{Picture}
-use Rattle.alf_spec.specs.Input.{Operation, luma, chroma, crossComponent, Input}
-use Rattle.alf_spec.specs.Geometry.{subWidth, subHeight}
+use Rattle.alf_spec.specs.Input.{Layout, Operation, luma, chroma, crossComponent, Input}
+use Rattle.alf_spec.specs.Geometry.{Plane, subWidth, subHeight, planeOf as layoutPlane}
 use Rattle.alf_spec.specs.Luma.{lumaSample}
 use Rattle.alf_spec.specs.Chroma.{chromaSample}
 use Rattle.alf_spec.specs.CrossComponent.{crossSample}
@@ -32,6 +32,16 @@ abbrev pub rowRatio : Filter → Picture → ℕ
 rowRatio Luma p = 1
 rowRatio (Chroma component) p = subHeight p
 rowRatio (CrossComponent component) p = subHeight p
+
+-- how far above a CTB's bottom the line lies at which its pieces end, in luma rows: chroma does not read across its own, so that its pieces go on over it
+abbrev pub walkLine : Filter → ℕ
+walkLine Luma = 4
+walkLine (Chroma component) = 0
+walkLine (CrossComponent component) = 4
+
+-- the luma plane with that line: a CTB is filtered by its pieces
+abbrev pub walkPlane : Filter → Layout → Plane
+walkPlane f l = layoutPlane l 1 1 (walkLine f)
 
 -- the plane that it filters, of luma and chroma
 abbrev pub planeOf : Filter → List ℕ → List ℕ → List ℕ

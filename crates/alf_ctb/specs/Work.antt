@@ -11,7 +11,7 @@ use Rattle.alf_spec.specs.declared.Picture.{Picture}
 use Rattle.alf_spec.specs.declared.Sides.{Sides}
 use Rattle.alf_spec.specs.Lists.{painted}
 use Rattle.alf_spec.specs.Input.{given, Input}
-use Rattle.alf_spec.specs.Geometry.{subWidth, subHeight, lumaPlane}
+use Rattle.alf_spec.specs.Geometry.{subWidth, subHeight}
 use Rattle.alf_spec.specs.Boundary.{columnSide, rowSide}
 use Rattle.alf_spec.specs.Process.{atIndex, outputPlane}
 use Rattle.alf_spec.specs.Faults.{pictureSizeValid, ctbSizeValid, bitDepthValid}
@@ -26,7 +26,7 @@ use Rattle.alf_params.specs.Filters.{FilterNumbers}
 use Rattle.alf_luma.specs.Filters.{Places}
 use Rattle.alf_ctb.specs.declared.Filter.{Filter}
 use Rattle.alf_ctb.specs.declared.Filter.the-variants.{Luma, Chroma, CrossComponent}
-use Rattle.alf_ctb.specs.Filters.{operationOf, columnRatio, rowRatio, sampleOf, OwnFilter}
+use Rattle.alf_ctb.specs.Filters.{operationOf, columnRatio, rowRatio, walkPlane, sampleOf, OwnFilter}
 
 -- an accepted picture, its planes as far as the filter is given them, and the tap order
 pub record Given (f : Filter) (p : Picture) (g : Grid) (lumaSamples chromaSamples places : List ℕ) : Type 0 where
@@ -69,8 +69,8 @@ Numbers (CrossComponent component) filters = CrossNumbers filters
 abbrev pub PieceFiltered : Filter → Picture → Sides → Piece → Piece → List ℕ → List ℕ → List ℤ → List ℕ → List ℕ → Type 0
 PieceFiltered f p sides columns rows lumaSamples chromaSamples filters old new =
     (i : Input) (c : Ctb) → CtbOf (i .layout) p c sides → i .luma ≡ lumaSamples → i .chroma ≡ chromaSamples → OwnFilter f i c filters
-    → PieceOf (lumaPlane (i .layout) .columns) (columnSide (i .layout) c) (c .column) columns
-    → PieceOf (lumaPlane (i .layout) .rows) (rowSide (i .layout) c) (c .row) rows
+    → PieceOf (walkPlane f (i .layout) .columns) (columnSide (i .layout) c) (c .column) columns
+    → PieceOf (walkPlane f (i .layout) .rows) (rowSide (i .layout) c) (c .row) rows
     → new ≡ painted old (inRect (p .width / columnRatio f p) (columns .start / columnRatio f p) (columns .end / columnRatio f p)
     (rows .start / rowRatio f p) (rows .end / rowRatio f p)) (atIndex (outputPlane (operationOf f) (i .layout)) (sampleOf f i))
 
@@ -78,7 +78,7 @@ PieceFiltered f p sides columns rows lumaSamples chromaSamples filters old new =
 abbrev pub ColumnsFiltered : Filter → Picture → Grid → List ℕ → Ctb → Sides → Piece → List ℕ → List ℕ → List ℤ → ℕ → List ℕ → List ℕ → Type 0
 ColumnsFiltered f p g virtualColumns c sides rows lumaSamples chromaSamples filters x old new =
     (i : Input) → CtbOf (i .layout) p c sides → i .layout .virtualColumns ≡ virtualColumns → i .luma ≡ lumaSamples → i .chroma ≡ chromaSamples
-    → OwnFilter f i c filters → PieceOf (lumaPlane (i .layout) .rows) (rowSide (i .layout) c) (c .row) rows
+    → OwnFilter f i c filters → PieceOf (walkPlane f (i .layout) .rows) (rowSide (i .layout) c) (c .row) rows
     → new ≡ painted old (inRect (p .width / columnRatio f p) (c .column * g .ctb / columnRatio f p) (x / columnRatio f p)
     (rows .start / rowRatio f p) (rows .end / rowRatio f p)) (atIndex (outputPlane (operationOf f) (i .layout)) (sampleOf f i))
 

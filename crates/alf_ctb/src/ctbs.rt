@@ -1,12 +1,15 @@
 // A CTB, filtered: a piece of its rows at a time, a piece of its columns at a time.
 ghost use mathlib.Core.Path.{_≡_};
 ghost use mathlib.Core.Bool.{true};
-ghost use Prim.Native.Nat.{_+_, _*_, _<_, min};
+ghost use Prim.Native.Nat.{_+_, _*_, _≤_, _<_, min};
 ghost use lib.ListN.{length};
 ghost use Rattle.alf_spec.specs.Geometry.{ctbSize};
 ghost use Rattle.alf_spec.specs.Faults.{virtualListValid};
-ghost use Rattle.alf_pieces.specs.Pieces.{BlockPiece};
+ghost use Rattle.alf_math.specs.Grids.{GridOf};
+ghost use Rattle.alf_boundary.specs.Clips.{axisOf};
+ghost use Rattle.alf_pieces.specs.Pieces.{pieceAt, either, BlockPiece};
 ghost use Rattle.alf_taps.specs.Spread.{TapNumbers};
+ghost use Rattle.alf_ctb.specs.Filters.{walkLine};
 ghost use Rattle.alf_ctb.specs.Work.{Given, Rooms, Numbers, ColumnsFiltered, RowsFiltered};
 use crate::Filter;
 use crate::pieces::filter_piece;
@@ -70,6 +73,27 @@ fn filter_strip(
     }
 }
 
+// The piece that begins at luma row y of the CTB row q. It ends at the line, but for chroma: no tap of the chroma filter reads across its own.
+fn strip_rows(
+    filter: Filter,
+    picture: Picture,
+    grid: Grid,
+    virtual_rows: &[u16],
+    sides: Sides,
+    q: u32,
+    y: u32,
+) -> Piece
+    requires { ⌜ (GridOf picture grid) × (q ≤ 128) × (y ≤ 4096) × (q * grid .ctb ≤ y) ⌝ }
+    ensures { λ r. ⌜ r ≡ pieceAt (axisOf (picture .height) (grid .ctb) (now («virtual_rows» .entry)) (walkLine filter) 1)
+        (either (sides .top) (sides .bottom)) q y ⌝ }
+{
+    match filter {
+        Filter::Luma => row_piece(picture, grid, 4, virtual_rows, 1, sides, q, y),
+        Filter::Chroma(_) => row_piece(picture, grid, 0, virtual_rows, 1, sides, q, y),
+        Filter::CrossComponent(_) => row_piece(picture, grid, 4, virtual_rows, 1, sides, q, y),
+    }
+}
+
 // The CTB's samples.
 pub fn filter_ctb(
     filter: Filter,
@@ -101,7 +125,7 @@ pub fn filter_ctb(
     let bottom = ctb_limit(picture.height, grid.ctb, ctb.row);
     let mut y = top;
     while y < bottom {
-        let rows = row_piece(picture, grid, virtual_rows, 1, sides, ctb.row, y);
+        let rows = strip_rows(filter, picture, grid, virtual_rows, sides, ctb.row, y);
         filter_strip(
             filter,
             picture,

@@ -13,7 +13,7 @@ use Rattle.alf_spec.specs.declared.Grid.{Grid}
 use Rattle.alf_spec.specs.declared.Picture.{Picture}
 use Rattle.alf_spec.specs.Lists.{implies, everyFrom, painted}
 use Rattle.alf_spec.specs.Input.{Layout, given, Input, inputOf}
-use Rattle.alf_spec.specs.Geometry.{planeOf, planeLength, ctbTotal, address}
+use Rattle.alf_spec.specs.Geometry.{subHeight, lineRows, planeOf, planeLength, ctbTotal, address}
 use Rattle.alf_spec.specs.Parameters.{ctbParam, sliceParam}
 use Rattle.alf_spec.specs.Process.{isFiltered, atIndex, filteredPlane, result, outputPlane}
 use Rattle.alf_spec.specs.Faults.{componentValid, filterLengthsValid, fixedLengthsValid, lengthsValid, sliceParamsValid, ctbRangesValid, ctbChromaZero, ctbParamsValidAt, parametersValid, bankValid, fixedValid, samplesValid, addressesValid, unless, layoutFault, tablesFault, fault}
@@ -32,7 +32,14 @@ use Rattle.alf_ctb.specs.Work.{Given}
 
 -- ---- the plane that a filter writes
 
-pub output-plane : (f : Filter) (l : Layout) → outputPlane (operationOf f) l ≡ planeOf l (columnRatio f (l .picture)) (rowRatio f (l .picture))
+-- the line of that plane
+abbrev pub outputLine : Filter → Picture → ℕ
+outputLine Luma p = lineRows 2
+outputLine (Chroma component) p = lineRows (subHeight p)
+outputLine (CrossComponent component) p = lineRows (subHeight p)
+
+pub output-plane : (f : Filter) (l : Layout)
+    → outputPlane (operationOf f) l ≡ planeOf l (columnRatio f (l .picture)) (rowRatio f (l .picture)) (outputLine f (l .picture))
 output-plane Luma l = refl
 output-plane (Chroma component) l = refl
 output-plane (CrossComponent component) l = refl

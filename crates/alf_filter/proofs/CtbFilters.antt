@@ -18,7 +18,7 @@ use Rattle.alf_pieces.proofs.CtbRegions.{ctb-painted}
 use Rattle.alf_ctb.specs.declared.Filter.{Filter}
 use Rattle.alf_ctb.specs.Filters.{operationOf, columnRatio, rowRatio}
 use Rattle.alf_ctb.proofs.Ratios.{filter-ratios}
-use Rattle.alf_filter.proofs.AcceptedFilters.{output-plane}
+use Rattle.alf_filter.proofs.AcceptedFilters.{outputLine, output-plane}
 
 -- a multiple of 8 is a whole number of the plane's own samples
 pub whole-samples : {r : ℕ} → Ratio r → (b : ℕ) → b % 8 ≡ 0 → b / r * r ≡ b
@@ -35,4 +35,4 @@ unfolding planeOf
 ctb-done f l ok grid old {new} size v k e =
     let ratios = filter-ratios f (l .picture) in
     subst (λ (g : Plane). new ≡ painted old (ofCtb l g k) v) (sym (output-plane f l))
-    (ctb-painted l ok (columnRatio f (l .picture)) (rowRatio f (l .picture)) (whole-samples (ratios .0)) (whole-samples (ratios .1)) old size grid v k e)
+    (ctb-painted l ok (columnRatio f (l .picture)) (rowRatio f (l .picture)) (outputLine f (l .picture)) (whole-samples (ratios .0)) (whole-samples (ratios .1)) old size grid v k e)

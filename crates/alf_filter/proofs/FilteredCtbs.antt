@@ -38,29 +38,29 @@ and-if true b c e = e refl
 and-if false b c e = refl
 
 -- a plane with these ratios to luma, of an accepted layout
-module _ (i : Input) (ok : Accepted (i .layout)) (columnRatio rowRatio : ℕ) (wholeColumns : (b : ℕ) → b % 8 ≡ 0 → b / columnRatio * columnRatio ≡ b)
+module _ (i : Input) (ok : Accepted (i .layout)) (columnRatio rowRatio line : ℕ) (wholeColumns : (b : ℕ) → b % 8 ≡ 0 → b / columnRatio * columnRatio ≡ b)
     (wholeRows : (b : ℕ) → b % 8 ≡ 0 → b / rowRatio * rowRatio ≡ b) (on : Ctb → Bool) where
   abbrev l : Layout
   l = i .layout
 
   abbrev g : Plane
-  g = planeOf l columnRatio rowRatio
+  g = planeOf l columnRatio rowRatio line
 
   -- the sample at index n
-  module _ (n : ℕ) (h : n < planeLength (planeOf (i .layout) columnRatio rowRatio)) where
+  module _ (n : ℕ) (h : n < planeLength (planeOf (i .layout) columnRatio rowRatio line)) where
     -- of the CTB at address k, which is listed and on, or not
     own-test : (k : ℕ) → ofCtb l g k n ≡ true → isFiltered i g on n ≡ (elem k (i .ctbList) && on (ctbOf l k))
     unfolding ofCtb isFiltered
     own-test k t =
         let at : addressAt l g n ≡ k = eqb-true (addressAt l g n) k t in
         let own : ctbAt g (columnOf g n) (rowOf g n) ≡ ctbOf l k = sym (address-ctb l (ctbAt g (columnOf g n) (rowOf g n))
-        (column-in l ok columnRatio rowRatio wholeColumns wholeRows n h) (row-in l ok columnRatio rowRatio wholeColumns wholeRows n h)) ∙ ap (ctbOf l) at in
+        (column-in l ok columnRatio rowRatio line wholeColumns wholeRows n h) (row-in l ok columnRatio rowRatio line wholeColumns wholeRows n h)) ∙ ap (ctbOf l) at in
         λ u. elem (at u) (i .ctbList) && on (own u)
 
     -- one CTB more
-    pub one-more : (k : ℕ) → filteredBefore i (planeOf (i .layout) columnRatio rowRatio) on (k + 1) n
-        ≡ (filteredBefore i (planeOf (i .layout) columnRatio rowRatio) on k n
-        || ofCtbIf (i .layout) (planeOf (i .layout) columnRatio rowRatio) k (elem k (i .ctbList) && on (ctbOf (i .layout) k)) n)
+    pub one-more : (k : ℕ) → filteredBefore i (planeOf (i .layout) columnRatio rowRatio line) on (k + 1) n
+        ≡ (filteredBefore i (planeOf (i .layout) columnRatio rowRatio line) on k n
+        || ofCtbIf (i .layout) (planeOf (i .layout) columnRatio rowRatio line) k (elem k (i .ctbList) && on (ctbOf (i .layout) k)) n)
     unfolding filteredBefore ofCtbIf
     one-more k =
         ap (λ (b : Bool). b && isFiltered i g on n) (next-ctb l g k n)
@@ -68,9 +68,9 @@ module _ (i : Input) (ok : Accepted (i .layout)) (columnRatio rowRatio : ℕ) (w
         ∙ ap (λ (b : Bool). (beforeCtb l g k n && isFiltered i g on n) || b) (and-if (ofCtb l g k n) _ _ (own-test k))
 
     -- and all
-    pub all-before : filteredBefore i (planeOf (i .layout) columnRatio rowRatio) on (ctbTotal (i .layout)) n ≡ isFiltered i (planeOf (i .layout) columnRatio rowRatio) on n
+    pub all-before : filteredBefore i (planeOf (i .layout) columnRatio rowRatio line) on (ctbTotal (i .layout)) n ≡ isFiltered i (planeOf (i .layout) columnRatio rowRatio line) on n
     unfolding filteredBefore
-    all-before = rw (every-ctb l ok columnRatio rowRatio wholeColumns wholeRows n h)
+    all-before = rw (every-ctb l ok columnRatio rowRatio line wholeColumns wholeRows n h)
 
 -- ---- in the plane of a filter
 
@@ -84,14 +84,14 @@ module _ (f : Filter) (i : Input) (ok : Accepted (i .layout)) (on : Ctb → Bool
       ≡ (filteredBefore i g on k m || ofCtbIf (i .layout) g k (elem k (i .ctbList) && on (ctbOf (i .layout) k)) m)
   ctb-more m h k = subst (λ (g : Plane). m < planeLength g → filteredBefore i g on (k + 1) m
       ≡ (filteredBefore i g on k m || ofCtbIf (i .layout) g k (elem k (i .ctbList) && on (ctbOf (i .layout) k)) m)) (sym (output-plane f (i .layout)))
-      (λ h. one-more i ok _ _ (whole-samples (ratios .0)) (whole-samples (ratios .1)) on m h k) h
+      (λ h. one-more i ok _ _ _ (whole-samples (ratios .0)) (whole-samples (ratios .1)) on m h k) h
 
   -- and all
   pub ctbs-all : (m : ℕ) → m < planeLength (outputPlane (operationOf f) (i .layout)) → let g = outputPlane (operationOf f) (i .layout) in
       filteredBefore i g on (ctbTotal (i .layout)) m ≡ isFiltered i g on m
   ctbs-all m h =
       subst (λ (g : Plane). m < planeLength g → filteredBefore i g on (ctbTotal (i .layout)) m ≡ isFiltered i g on m) (sym (output-plane f (i .layout)))
-      (λ h. all-before i ok _ _ (whole-samples (ratios .0)) (whole-samples (ratios .1)) on m h) h
+      (λ h. all-before i ok _ _ _ (whole-samples (ratios .0)) (whole-samples (ratios .1)) on m h) h
 
 -- ---- one CTB, by a test
 

@@ -1,6 +1,5 @@
 -- `alf_chroma::rows::rows_at` meets its contract. Assumes nothing.
 use mathlib.Core.Path.{refl, _∙_}
-use mathlib.Core.Bool.{true}
 use mathlib.Core.List.{[]}
 use Prim.Native.Nat.{_*_, _≤_}
 use native.Mathlib.Nat.{mul-le-mul}
@@ -19,7 +18,7 @@ unfolding bottomDistance
 returns c =
     let s = c .before .before .before in
     let a = s .args in
-    let line = c .before .before .line-rule .ensures (axisOf (a .height) (a .ctb) [] true (a .ratio)) refl refl in
+    let line = c .before .before .line-rule .ensures (axisOf (a .height) (a .ctb) [] 0 (a .ratio)) refl refl in
     c .chroma-rows .ensures ∙ rw (line, c .before .bottom-distance .ensures)
 
 pub rows-at-spec : {M : Type 1} → statement M

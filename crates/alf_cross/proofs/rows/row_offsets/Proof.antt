@@ -1,6 +1,5 @@
 -- `alf_cross::rows::row_offsets` meets its contract. Assumes nothing.
 use mathlib.Core.Path.{refl}
-use mathlib.Core.Bool.{true}
 use mathlib.Core.List.{[]}
 use native.Mathlib.Nat.{mod-lt}
 use native.Mathlib.Omega.{arith}
@@ -19,4 +18,4 @@ row-offsets-spec =
     (λ c κs. search needs)
     (λ c.
     let a = c .before .before .args in
-    rw (c .before .line-rule .ensures (axisOf (a .height) (a .ctb) [] true 1) refl refl) at (c .cross-rows .ensures)))
+    rw (c .before .line-rule .ensures (axisOf (a .height) (a .ctb) [] 4 1) refl refl) at (c .cross-rows .ensures)))

@@ -1,6 +1,5 @@
 -- `alf_ctb::ctbs::filter_ctb` meets its contract: the strips above y are filtered. Assumes nothing.
 use mathlib.Core.Path.{_≡_, refl, ap, _∙_}
-use mathlib.Core.Bool.{true}
 use mathlib.Core.Logic.{inr}
 use Prim.Native.Nat.{ℕ, _-_, _/_, _≤_}
 use native.Mathlib.Nat.{div-one}
@@ -17,15 +16,15 @@ use Rattle.alf_pieces.proofs.CtbPieces.{row-piece}
 use Rattle.alf_lists.proofs.PaintedRects.{paint-stacked}
 use Rattle.alf_pieces.proofs.PieceWalk.{Walk, walk-start, walk-next, walk-done, Turn, turn, turn-less, block-piece, rows-regular}
 use Rattle.alf_taps.specs.Spread.{TapNumbers}
-use Rattle.alf_ctb.specs.Filters.{rowRatio}
+use Rattle.alf_ctb.specs.Filters.{rowRatio, walkLine}
 use Rattle.alf_ctb.specs.Work.{RowsFiltered}
-use Rattle.alf_ctb.proofs.Ratios.{filter-ratios, own-order, rooms-same}
+use Rattle.alf_ctb.proofs.Ratios.{filter-ratios, walks, own-order, rooms-same}
 use Rattle.alf_ctb.proofs.ctbs.filter_ctb.Statement.{statement}
 use Rattle.alf_ctb.proofs.ctbs.filter_ctb.Tie as tie
 
 abbrev Inv-loop : tie.InvT-loop
 Inv-loop filter picture grid virtual-columns virtual-rows ctb sides luma chroma filters places copy₀ differences₀ taps₀ output₀ top bottom y₀ copy differences taps output y =
-    Walk (axisOf (picture .height) (grid .ctb) virtual-rows true 1) (ctb .row) y
+    Walk (axisOf (picture .height) (grid .ctb) virtual-rows (walkLine filter) 1) (ctb .row) y
     × (length copy ≡ length copy₀) × (length differences ≡ length differences₀) × TapNumbers taps × (length taps ≡ length taps₀)
     × (length output ≡ length output₀)
     × RowsFiltered filter picture grid virtual-columns virtual-rows ctb sides luma chroma filters y output₀ output
@@ -54,14 +53,14 @@ loop-holds c =
     )
 
 -- the piece that a turn finds
-found : (c : tie.After-row-piece Inv-loop μ-loop) → let a = start (c .before) .args in
-    Turn (axisOf (a .picture .height) (a .grid .ctb) (a .virtual-rows .now) true 1) (either (a .sides .top) (a .sides .bottom)) (a .ctb .row)
-    (c .before .before .loop .y) (c .row-piece .result)
+found : (c : tie.After-strip-rows Inv-loop μ-loop) → let a = start (c .before) .args in
+    Turn (axisOf (a .picture .height) (a .grid .ctb) (a .virtual-rows .now) (walkLine (a .filter)) 1) (either (a .sides .top) (a .sides .bottom)) (a .ctb .row)
+    (c .before .before .loop .y) (c .strip-rows .result)
 found c =
     let s = start (c .before) in
     let given = s .pre .0 in
-    turn (rows-regular (given .grid) (given .sizes) (given .ctbSize) (s .pre .4) 1) whole (given .grid .ctbHigh) (c .before .before .loop .inv .0)
-    (omega (arith, c .before .before .before .ctb-limit .ensures, c .before .loop-test .taken)) (c .row-piece .ensures)
+    turn (rows-regular (given .grid) (given .sizes) (given .ctbSize) (s .pre .4) _ 1) whole (walks (s .args .filter)) (given .grid .ctbHigh) (c .before .before .loop .inv .0)
+    (omega (arith, c .before .before .before .ctb-limit .ensures, c .before .loop-test .taken)) (c .strip-rows .ensures)
 
 filter-strip-requires : tie.Need-filter-strip-requires Inv-loop μ-loop
 filter-strip-requires c κs =
@@ -91,7 +90,7 @@ loop-again c =
       omega (arith, inv .5, c .before .output .given),
       λ i of columns rows same other own.
           paint-is (paint-stacked _ _ _ _ _ _ (paint-of (inv .6 i of columns rows same other own))
-          (done .0 i of columns same other own (row-piece of 1 1 (s .pre .0 .grid) rows (t .piece)))
+          (done .0 i of columns same other own (row-piece of 1 1 _ (s .pre .0 .grid) rows (t .piece)))
           (ap (λ (n : ℕ). n / rowRatio (s .args .filter) (s .args .picture)) (t .start))
           (own-order ratio _ _ (omega (arith, inv .0 .from))) (own-order ratio _ _ (omega (arith, t .start, t .facts .numbers .filled)))),
     )
@@ -114,7 +113,7 @@ filter-ctb-spec =
     (λ c κs.
     let s = start c in
     let most = height-bounds (s .args .picture) (s .pre .0 .sizes) (s .pre .0 .ctbSize) in
-    (s .pre .0 .grid, omega arith, omega arith, few s, omega (arith, most, c .loop-test .taken, c .before .before .ctb-limit .ensures)))
+    (s .pre .0 .grid, few s, omega (arith, most, c .loop-test .taken, c .before .before .ctb-limit .ensures), omega (arith, c .before .loop .inv .0 .from)))
     filter-strip-requires
     loop-less
     loop-again
