@@ -35,5 +35,5 @@ pub fn bit_depth_valid(picture: Picture) -> bool
 pub fn chroma_format_valid(picture: Picture) -> bool
     ensures { λ r. ⌜ r ≡ chromaFormatValid picture ⌝ }
 {
-    picture.chroma_format <= 1
+    picture.chroma_format <= 3
 }

@@ -25,7 +25,9 @@ pub fn plane_fits(picture: Picture, columns: u32, rows: u32, length: usize) -> b
 pub fn chroma_fits(picture: Picture, length: usize) -> bool
     ensures { λ r. ⌜ ((l : Layout) → l .picture ≡ picture → r ≡ eqb length (planeLength (chromaPlane l))) ⌝ }
 {
-    plane_fits(picture, sub_width(picture), sub_height(picture), length)
+    let across = sub_width(picture);
+    let down = sub_height(picture);
+    plane_fits(picture, across, down, length)
 }
 
 // Whether there are eight numbers for each CTB.

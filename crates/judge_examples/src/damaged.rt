@@ -29,7 +29,7 @@ fn picture(first: u32, last: u32) -> Picture {
         bit_depth = 13;
     }
     if breaks(4, first, last) {
-        chroma_format = 2;
+        chroma_format = 4;
     }
     if breaks(5, first, last) {
         slice_count = 257;

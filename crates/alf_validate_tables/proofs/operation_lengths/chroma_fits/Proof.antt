@@ -12,5 +12,5 @@ chroma-fits-spec =
     (tie.spec
     (λ c κs. search needs)
     (λ c κs. search needs)
-    (λ c κs. (c .before .sub-width .ensures .1, c .sub-height .ensures .1))
+    (λ c κs. search needs)
     (λ c l e. c .plane-fits .ensures ∙ rw (e, c .before .before .sub-width .ensures .0, c .before .sub-height .ensures .0)))
