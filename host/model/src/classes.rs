@@ -2,7 +2,7 @@
 
 use crate::edges::{clip3, edges, line_rule, padded};
 use crate::judge::{judge, Given, Output};
-use crate::layout::{Ctb, Layout, Plane};
+use crate::layout::{Cell, Ctb, Layout, Plane};
 
 /// varTab of (1498).
 const VAR_TAB: [u8; 16] = [0, 1, 2, 2, 2, 2, 2, 3, 3, 3, 3, 3, 3, 3, 3, 4];
@@ -30,7 +30,7 @@ pub(crate) struct Window {
 /// Fills the class map, class + 32 × transpose, for every block of the picture.
 pub fn classes(layout: &Layout, luma: &[u16], class_map: &mut [u8]) -> u8 {
     let output = Output {
-        cell: 4,
+        cell: Cell::square(4),
         length: class_map.len(),
     };
     let number = judge(

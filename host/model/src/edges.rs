@@ -64,11 +64,26 @@ pub(crate) fn closed_by(layout: &Layout, ctb: Ctb, columns: i64, rows: i64) -> O
     (layout.subpic(ctb) != layout.subpic(across) && own_flag == 0).then_some(ClipCause::Subpicture)
 }
 
-/// 8.8.5.5 for the luma position ( x, y ) inside the CTB.
+/// 8.8.5.5 for the luma position ( x, y ) inside the CTB, wherever luma is filtered,
+/// classified or read: scaleHeight is 2, which puts the line-buffer boundary 4 rows up.
 pub(crate) fn edges(layout: &Layout, ctb: Ctb, x: i64, y: i64) -> Edges {
+    edges_by_line(layout, ctb, (x, y), layout.ctb_size() - 4)
+}
+
+/// The same for the chroma filter's sample at ( x, y ) inside the chroma CTB: clip
+/// positions are those of its luma position, but scaleHeight is SubHeightC, which puts
+/// the line-buffer boundary 2 chroma rows up.
+pub(crate) fn chroma_edges(layout: &Layout, ctb: Ctb, x: i64, y: i64) -> Edges {
+    let sub = layout.chroma_cell();
+    let line = layout.ctb_size() - 2 * sub.height;
+    edges_by_line(layout, ctb, (x * sub.width, y * sub.height), line)
+}
+
+/// 8.8.5.5 with the line-buffer boundary at a luma row inside the CTB.
+fn edges_by_line(layout: &Layout, ctb: Ctb, (x, y): (i64, i64), line: i64) -> Edges {
     Edges {
-        clip_top: clip_top(layout, ctb, y),
-        clip_bottom: clip_bottom(layout, ctb, y),
+        clip_top: clip_top(layout, ctb, y, line),
+        clip_bottom: clip_bottom(layout, ctb, y, line),
         clip_left: clip_left(layout, ctb, x),
         clip_right: clip_right(layout, ctb, x),
         clip_top_left_flag: other_slice_cut(layout, ctb, -1, -1),
@@ -77,19 +92,17 @@ pub(crate) fn edges(layout: &Layout, ctb: Ctb, x: i64, y: i64) -> Edges {
 }
 
 /// clipTopPos, (1511): the first of the line-buffer boundary, a virtual boundary, the CTB's closed top.
-fn clip_top(layout: &Layout, ctb: Ctb, y: i64) -> Option<Clip> {
+fn clip_top(layout: &Layout, ctb: Ctb, y: i64, line: i64) -> Option<Clip> {
     let (_, y_ctb) = layout.origin(ctb);
-    let line = layout.ctb_size() - 4;
     clip_at(y >= line, y_ctb + line, ClipCause::LineBufferBoundary)
         .or_else(|| boundary_before(layout.virtual_rows, y_ctb + y))
         .or_else(|| clip_side(y < 3, y_ctb, closed_by(layout, ctb, 0, -1)))
 }
 
 /// clipBottomPos, (1512): the first of a virtual boundary, the line-buffer boundary, the CTB's closed bottom.
-fn clip_bottom(layout: &Layout, ctb: Ctb, y: i64) -> Option<Clip> {
+fn clip_bottom(layout: &Layout, ctb: Ctb, y: i64, line: i64) -> Option<Clip> {
     let (_, y_ctb) = layout.origin(ctb);
     let size = layout.ctb_size();
-    let line = size - 4;
     boundary_after(layout.virtual_rows, y_ctb + y)
         .or_else(|| clip_at((1..=4).contains(&(line - y)), y_ctb + line, ClipCause::LineBufferBoundary))
         .or_else(|| clip_side(size - y < 5, y_ctb + size, closed_by(layout, ctb, 0, 1)))
@@ -153,31 +166,31 @@ pub(crate) fn padded(layout: &Layout, plane: &Plane, ctb: Ctb, edges: &Edges, (x
     let y = clip3(0, plane.height - 1, y);
     let rows = (edges.clip_top, edges.clip_bottom);
     let columns = (edges.clip_left, edges.clip_right);
-    let y = clip_to(rows, plane.scale, plane.height, y);
-    let x = clip_to(columns, plane.scale, plane.width, x);
-    (corner_column(layout, plane.scale, ctb, edges, x, y), y)
+    let y = clip_to(rows, plane.cell.height, plane.height, y);
+    let x = clip_to(columns, plane.cell.width, plane.width, x);
+    (corner_column(layout, plane, ctb, edges, x, y), y)
 }
 
-/// (1521) to (1528) in one direction: clip positions are halved for chroma, then applied.
-fn clip_to((before, after): (Option<Clip>, Option<Clip>), scale: i64, size: i64, position: i64) -> i64 {
+/// (1521) to (1528) in one direction: clip positions are divided by the plane's ratio in
+/// that direction, then applied.
+fn clip_to((before, after): (Option<Clip>, Option<Clip>), ratio: i64, size: i64, position: i64) -> i64 {
     let mut position = position;
     if let Some(clip) = before {
-        position = clip3(clip.position / scale, size - 1, position);
+        position = clip3(clip.position / ratio, size - 1, position);
     }
     if let Some(clip) = after {
-        position = clip3(0, clip.position / scale - 1, position);
+        position = clip3(0, clip.position / ratio - 1, position);
     }
     position
 }
 
 /// The end of 8.8.5.6: a neighbour past the upper left or lower right corner moves
 /// to the CTB's first or last column. Its row stays.
-fn corner_column(layout: &Layout, scale: i64, ctb: Ctb, edges: &Edges, x: i64, y: i64) -> i64 {
-    let (x_ctb, y_ctb) = layout.origin(ctb);
-    let first_column = x_ctb / scale;
-    let first_row = y_ctb / scale;
-    let last_column = first_column + layout.ctb_size() / scale - 1;
-    let last_row = first_row + layout.ctb_size() / scale - 1;
+fn corner_column(layout: &Layout, plane: &Plane, ctb: Ctb, edges: &Edges, x: i64, y: i64) -> i64 {
+    let (first_column, first_row) = plane.origin(layout, ctb);
+    let (columns, rows) = plane.ctb_sizes(layout);
+    let last_column = first_column + columns - 1;
+    let last_row = first_row + rows - 1;
     let open_top_left = edges.clip_top.is_none() && edges.clip_left.is_none();
     let open_bot_right = edges.clip_bottom.is_none() && edges.clip_right.is_none();
     if edges.clip_top_left_flag && open_top_left && x < first_column && y < first_row {

@@ -1,9 +1,9 @@
 //! The luma, chroma and cross-component filters (8.8.5.2, 8.8.5.4 and 8.8.5.7).
 
 use crate::classes::block_class;
-use crate::edges::{clip3, edges, line_rule};
+use crate::edges::{chroma_edges, clip3, edges, line_rule};
 use crate::judge::{judge, Given, Output};
-use crate::layout::{Ctb, FixedTables, Layout, Parameters, Plane};
+use crate::layout::{Cell, Ctb, FixedTables, Layout, Parameters, Plane};
 use crate::taps::{chroma_reach, chroma_taps, cross_reach, cross_taps, luma_reach, luma_taps, rounded, Filter, Surround, TAP_ORDER};
 
 /// Filters luma in each listed CTB whose luma flag is 1.
@@ -13,7 +13,7 @@ pub fn luma(layout: &Layout, parameters: &Parameters, fixed: &FixedTables, luma:
         fixed: Some(fixed),
         luma: Some(luma),
         output: Some(Output {
-            cell: 1,
+            cell: Cell::LUMA,
             length: output.len(),
         }),
         ..Given::default()
@@ -40,7 +40,7 @@ pub fn chroma(layout: &Layout, component: u8, parameters: &Parameters, chroma: &
         parameters: Some(parameters),
         chroma: Some(chroma),
         output: Some(Output {
-            cell: 2,
+            cell: layout.chroma_cell(),
             length: output.len(),
         }),
         ..Given::default()
@@ -71,7 +71,7 @@ pub fn cross_component(layout: &Layout, component: u8, parameters: &Parameters, 
         luma: Some(luma),
         chroma: Some(chroma),
         output: Some(Output {
-            cell: 2,
+            cell: layout.chroma_cell(),
             length: output.len(),
         }),
         ..Given::default()
@@ -185,33 +185,35 @@ fn stored(value: i64, bit_depth: u8) -> u16 {
     clip3(0, (1 << bit_depth) - 1, value) as u16
 }
 
+/// The samples of a chroma CTB that lie in the plane: the position inside the CTB, and in the plane.
+fn chroma_samples(layout: &Layout, plane: &Plane, ctb: Ctb) -> Vec<((i64, i64), (i64, i64))> {
+    let (x_ctb_c, y_ctb_c) = plane.origin(layout, ctb);
+    let (ctb_width_c, ctb_height_c) = plane.ctb_sizes(layout);
+    (0..ctb_width_c * ctb_height_c)
+        .map(|index| (index % ctb_width_c, index / ctb_width_c))
+        .map(|(x, y)| ((x, y), (x_ctb_c + x, y_ctb_c + y)))
+        .filter(|&(_, here)| plane.holds(here.0, here.1))
+        .collect()
+}
+
 /// 8.8.5.4.
 fn chroma_ctb(layout: &Layout, plane: &Plane, ctb: Ctb, filter: &Filter, output: &mut [u16]) {
-    let (x_ctb, y_ctb) = layout.origin(ctb);
-    let ctb_size_c = layout.ctb_size() / 2;
-    for y in 0..ctb_size_c {
-        for x in 0..ctb_size_c {
-            let here = (x_ctb / 2 + x, y_ctb / 2 + y);
-            if plane.holds(here.0, here.1) {
-                let value = chroma_sample(layout, plane, ctb, (x, y), filter);
-                output[plane.index(here.0, here.1)] = value;
-            }
-        }
+    for (inside, here) in chroma_samples(layout, plane, ctb) {
+        output[plane.index(here.0, here.1)] = chroma_sample(layout, plane, ctb, inside, here, filter);
     }
 }
 
-/// (1503) to (1510) for the chroma sample at ( x, y ) inside the chroma CTB. Clip
-/// positions are those of the luma position at twice its own.
-fn chroma_sample(layout: &Layout, plane: &Plane, ctb: Ctb, (x, y): (i64, i64), filter: &Filter) -> u16 {
-    let (x_ctb, y_ctb) = layout.origin(ctb);
-    let here = (x_ctb / 2 + x, y_ctb / 2 + y);
+/// (1503) to (1510) for the chroma sample at ( x, y ) inside the chroma CTB, which is at
+/// `here` in the plane.
+fn chroma_sample(layout: &Layout, plane: &Plane, ctb: Ctb, (x, y): (i64, i64), here: (i64, i64), filter: &Filter) -> u16 {
     let surround = Surround {
         layout,
         plane,
         ctb,
-        edges: edges(layout, ctb, 2 * x, 2 * y),
+        edges: chroma_edges(layout, ctb, x, y),
     };
-    let reach = chroma_reach(layout.ctb_size() / 2, line_rule(layout, ctb), y);
+    let (_, ctb_height_c) = plane.ctb_sizes(layout);
+    let reach = chroma_reach(ctb_height_c, line_rule(layout, ctb), y);
     let idx = [0, 1, 2, 3, 4, 5];
     let sum = surround.paired_sum(here, &chroma_taps(reach), &idx, filter);
     let curr = plane.at(here.0, here.1);
@@ -220,34 +222,26 @@ fn chroma_sample(layout: &Layout, plane: &Plane, ctb: Ctb, (x, y): (i64, i64), f
 
 /// 8.8.5.7 for one CTB.
 fn cross_ctb(layout: &Layout, luma_plane: &Plane, chroma_plane: &Plane, ctb: Ctb, f: &[i64], output: &mut [u16]) {
-    let (x_ctb, y_ctb) = layout.origin(ctb);
-    let ctb_size_c = layout.ctb_size() / 2;
-    for y in 0..ctb_size_c {
-        for x in 0..ctb_size_c {
-            let here = (x_ctb / 2 + x, y_ctb / 2 + y);
-            if chroma_plane.holds(here.0, here.1) {
-                let curr = chroma_plane.at(here.0, here.1);
-                let scaled_sum = cross_term(layout, luma_plane, ctb, (x, y), f);
-                let value = stored(curr + scaled_sum, layout.bit_depth);
-                output[chroma_plane.index(here.0, here.1)] = value;
-            }
-        }
+    let sub = chroma_plane.cell;
+    for ((x, y), here) in chroma_samples(layout, chroma_plane, ctb) {
+        let curr = chroma_plane.at(here.0, here.1);
+        let scaled_sum = cross_term(layout, luma_plane, ctb, (x * sub.width, y * sub.height), f);
+        output[chroma_plane.index(here.0, here.1)] = stored(curr + scaled_sum, layout.bit_depth);
     }
 }
 
-/// scaledSum of (1534) for the chroma sample at ( x, y ) inside the chroma CTB. The
-/// neighbours are luma samples round twice its position, so clip positions are not halved.
+/// scaledSum of (1534) for the chroma sample whose luma position inside the CTB is
+/// ( x, y ). The neighbours are luma samples, so clip positions are taken as they are.
 fn cross_term(layout: &Layout, luma_plane: &Plane, ctb: Ctb, (x, y): (i64, i64), f: &[i64]) -> i64 {
     let (x_ctb, y_ctb) = layout.origin(ctb);
-    let here = (x_ctb + 2 * x, y_ctb + 2 * y);
     let surround = Surround {
         layout,
         plane: luma_plane,
         ctb,
-        edges: edges(layout, ctb, 2 * x, 2 * y),
+        edges: edges(layout, ctb, x, y),
     };
-    let (y_p1, y_p2) = cross_reach(layout.ctb_size(), line_rule(layout, ctb), 2 * y);
-    let sum = surround.cross_sum(here, &cross_taps(y_p1, y_p2), f);
+    let (y_p1, y_p2) = cross_reach(layout.ctb_size(), line_rule(layout, ctb), y);
+    let sum = surround.cross_sum((x_ctb + x, y_ctb + y), &cross_taps(y_p1, y_p2), f);
     let half = 1i64 << (layout.bit_depth - 1);
     clip3(-half, half - 1, rounded(sum, 7))
 }

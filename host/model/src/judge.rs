@@ -1,6 +1,6 @@
 //! The causes for which a picture is rejected (01, the table of numbers, and 02).
 
-use crate::layout::{Ctb, FixedTables, Layout, Parameters};
+use crate::layout::{Cell, Ctb, FixedTables, Layout, Parameters};
 
 /// What an operation is given besides the layout; what is absent is not judged.
 #[derive(Clone, Copy, Default)]
@@ -18,10 +18,10 @@ pub(crate) struct Given<'a> {
     pub causes: Option<usize>,
 }
 
-/// An output plane: how many luma samples, each way, one entry stands for, and its length.
+/// An output plane: what one entry stands for, and its length.
 #[derive(Clone, Copy)]
 pub(crate) struct Output {
-    pub cell: i64,
+    pub cell: Cell,
     pub length: usize,
 }
 
@@ -73,12 +73,9 @@ fn bit_depth(layout: &Layout, _: &Given) -> bool {
     !(8..=12).contains(&layout.bit_depth)
 }
 
-/// 4: the chroma format; and, for work on chroma, the format is 1 and the component 0 or 1.
+/// 4: the chroma format is 0 to 3; and, for work on chroma, there is chroma and the component is 0 or 1.
 fn chroma_work(layout: &Layout, given: &Given) -> bool {
-    match given.component {
-        None => layout.chroma > 1,
-        Some(component) => layout.chroma != 1 || component > 1,
-    }
+    layout.chroma > 3 || given.component.is_some_and(|component| layout.chroma == 0 || component > 1)
 }
 
 /// 5: the slice count, and the length of all that is given.
@@ -111,9 +108,13 @@ fn parameter_lengths(layout: &Layout, given: &Given) -> bool {
 }
 
 fn plane_lengths(layout: &Layout, given: &Given) -> bool {
-    given.luma.is_some_and(|plane| wrong(plane.len(), layout.cells(1)))
-        || given.chroma.is_some_and(|plane| wrong(plane.len(), layout.cells(2)))
-        || given.region.is_some_and(|region| wrong(region.len(), layout.cells(8)))
+    given.luma.is_some_and(|plane| wrong(plane.len(), layout.cells(Cell::LUMA)))
+        || given
+            .chroma
+            .is_some_and(|plane| wrong(plane.len(), layout.cells(layout.chroma_cell())))
+        || given
+            .region
+            .is_some_and(|region| wrong(region.len(), layout.cells(Cell::square(8))))
         || given.output.is_some_and(|output| wrong(output.length, layout.cells(output.cell)))
         || given.causes.is_some_and(|length| wrong(length, 4))
 }

@@ -9,7 +9,7 @@ pub struct Layout<'a> {
     pub height: u32,
     pub ctb_log2: u8,
     pub bit_depth: u8,
-    /// 0: luma alone; 1: 4:2:0.
+    /// 0: luma alone; 1: 4:2:0; 2: 4:2:2; 3: 4:4:4.
     pub chroma: u8,
     /// The slice count, the N of 01.
     pub slice_count: u32,
@@ -47,6 +47,22 @@ pub struct FixedTables<'a> {
     pub map: &'a [u8],
 }
 
+/// How many luma samples, in each direction, one entry of a plane or a map stands for.
+#[derive(Clone, Copy, Debug, PartialEq, Eq)]
+pub(crate) struct Cell {
+    pub width: i64,
+    pub height: i64,
+}
+
+impl Cell {
+    /// A luma sample stands for itself.
+    pub(crate) const LUMA: Cell = Cell::square(1);
+
+    pub(crate) const fn square(side: i64) -> Cell {
+        Cell { width: side, height: side }
+    }
+}
+
 /// A CTB by its position in the grid (rx, ry).
 #[derive(Clone, Copy, Debug, PartialEq, Eq)]
 pub(crate) struct Ctb {
@@ -74,9 +90,19 @@ impl Layout<'_> {
         self.ctb_columns() * self.ctb_rows()
     }
 
-    /// The number of cells in the picture, a cell being `side` luma samples each way.
-    pub(crate) fn cells(&self, side: i64) -> i64 {
-        (i64::from(self.width) / side) * (i64::from(self.height) / side)
+    /// SubWidthC by SubHeightC, the ratio of the chroma format.
+    pub(crate) fn chroma_cell(&self) -> Cell {
+        let (width, height) = match self.chroma {
+            1 => (2, 2),
+            2 => (2, 1),
+            _ => (1, 1),
+        };
+        Cell { width, height }
+    }
+
+    /// The number of cells in the picture.
+    pub(crate) fn cells(&self, cell: Cell) -> i64 {
+        (i64::from(self.width) / cell.width) * (i64::from(self.height) / cell.height)
     }
 
     /// The CTB of an address; addresses go along the rows of the grid.
@@ -159,28 +185,38 @@ pub(crate) struct Plane<'a> {
     samples: &'a [u16],
     pub width: i64,
     pub height: i64,
-    /// Luma samples for one sample of this plane, each way: 1 for luma, 2 for chroma.
-    pub scale: i64,
+    pub cell: Cell,
 }
 
 impl<'a> Plane<'a> {
     pub(crate) fn luma(layout: &Layout, samples: &'a [u16]) -> Plane<'a> {
-        Plane::scaled(layout, samples, 1)
+        Plane::of_cells(layout, samples, Cell::LUMA)
     }
 
     pub(crate) fn chroma(layout: &Layout, samples: &'a [u16]) -> Plane<'a> {
-        Plane::scaled(layout, samples, 2)
+        Plane::of_cells(layout, samples, layout.chroma_cell())
     }
 
-    fn scaled(layout: &Layout, samples: &'a [u16], scale: i64) -> Plane<'a> {
-        let width = i64::from(layout.width) / scale;
-        let height = i64::from(layout.height) / scale;
+    fn of_cells(layout: &Layout, samples: &'a [u16], cell: Cell) -> Plane<'a> {
+        let width = i64::from(layout.width) / cell.width;
+        let height = i64::from(layout.height) / cell.height;
         Plane {
             samples,
             width,
             height,
-            scale,
+            cell,
         }
+    }
+
+    /// (1517) and (1518): where the CTB begins in this plane.
+    pub(crate) fn origin(&self, layout: &Layout, ctb: Ctb) -> (i64, i64) {
+        let (x_ctb, y_ctb) = layout.origin(ctb);
+        (x_ctb / self.cell.width, y_ctb / self.cell.height)
+    }
+
+    /// (1519) and (1520): width and height of a whole CTB in this plane.
+    pub(crate) fn ctb_sizes(&self, layout: &Layout) -> (i64, i64) {
+        (layout.ctb_size() / self.cell.width, layout.ctb_size() / self.cell.height)
     }
 
     pub(crate) fn holds(&self, x: i64, y: i64) -> bool {

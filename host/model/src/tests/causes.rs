@@ -120,7 +120,7 @@ fn virtual_boundary_before_the_side() {
     assert_eq!(at(&given, 35, 35), [OPEN; 4]);
 }
 
-/// On the grid of 8 a virtual row and the line never reach one sample's side together, so
+/// On the grid of 8 a virtual row and luma's line never reach one sample's side together, so
 /// rows off the grid, which are rejected, show the order: at the top the line is tested
 /// first, at the bottom the virtual row.
 #[test]

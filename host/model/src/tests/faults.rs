@@ -35,10 +35,14 @@ fn picture() {
     assert_eq!(after(|given| given.ctb_log2 = 255), [2; 6]);
     assert_eq!(after(|given| given.bit_depth = 13), [3; 6]);
     assert_eq!(after(|given| given.bit_depth = 7), [3; 6]);
-    assert_eq!(after(|given| given.chroma_format = 2), [4; 6]);
+    assert_eq!(after(|given| given.chroma_format = 4), [4; 6]);
+    assert_eq!(after(|given| given.chroma_format = 255), [4; 6]);
     assert_eq!(after(|given| given.chroma_format = 0), [0, 0, 4, 4, 0, 0]);
-    assert_eq!(good().filter_chroma(2).0, 4);
-    assert_eq!(good().filter_cross(255).0, 4);
+    for format in 1..4 {
+        let given = good().with_chroma_format(format);
+        assert_eq!(given.numbers(), [0; 6]);
+        assert_eq!((given.filter_chroma(2).0, given.filter_cross(255).0), (4, 4));
+    }
 }
 
 #[test]
@@ -57,6 +61,9 @@ fn lengths() {
     assert_eq!(after(|given| given.fixed_filters.clear()), [0, 5, 0, 0, 0, 0]);
     assert_eq!(after(|given| given.luma.clear()), [5, 5, 0, 5, 0, 0]);
     assert_eq!(after(|given| given.chroma.push(0)), [0, 0, 5, 5, 0, 0]);
+    // The chroma of 4:2:0 is too short for the other formats.
+    assert_eq!(after(|given| given.chroma_format = 2), [0, 0, 5, 5, 0, 0]);
+    assert_eq!(after(|given| given.chroma_format = 3), [0, 0, 5, 5, 0, 0]);
     assert_eq!(after(|given| given.region.push(0)), [0, 0, 0, 0, 5, 0]);
     for length in [0, 3, 5, 64] {
         assert_eq!(after(|given| given.causes = length), [0, 0, 0, 0, 0, 5]);
@@ -212,7 +219,7 @@ fn lowest_number_first() {
     given.tile_rows[0] = 1;
     given.virtual_rows = vec![1];
     given.fixed_filters.push(0);
-    given.chroma_format = 2;
+    given.chroma_format = 4;
     given.bit_depth = 0;
     given.ctb_log2 = 0;
     given.width = 0;
@@ -252,7 +259,7 @@ fn position_is_judged_last() {
     given.tile_rows[0] = 1;
     given.virtual_rows = vec![1];
     given.causes = 5;
-    given.chroma_format = 2;
+    given.chroma_format = 4;
     given.bit_depth = 0;
     given.ctb_log2 = 0;
     given.width = 0;

@@ -26,7 +26,7 @@ fn garbage(random: &mut Random) -> Given {
         height: [8, 16, 4096, random.next() as u32][random.below(4) as usize],
         ctb_log2: [5, 6, 7, random.next() as u8][random.below(4) as usize],
         bit_depth: [8, 12, 10, random.next() as u8][random.below(4) as usize],
-        chroma_format: [0, 1, 1, random.next() as u8][random.below(4) as usize],
+        chroma_format: [0, 1, 2, 3, random.next() as u8][random.below(5) as usize],
         slice_count: [1, 256, 2, random.next() as u32][random.below(4) as usize],
         across_tiles: random.yes(),
         across_slices: random.yes(),
@@ -90,7 +90,8 @@ fn a_little_garbage() {
 }
 
 fn spoilt(random: &mut Random) -> Given {
-    let mut given = Given::plain(8 + 8 * random.below(9) as u32, 40, 5, 8);
+    let plain = Given::plain(8 + 8 * random.below(9) as u32, 40, 5, 8);
+    let mut given = plain.with_chroma_format(1 + random.below(3) as u8);
     let bad = garbage(random);
     for _ in 0..random.below(4) {
         match random.below(16) {
@@ -156,7 +157,7 @@ fn extreme_numbers() {
 #[test]
 fn extreme_filters() {
     for (coefficient, low, high) in [(127, 0, 4095), (-128, 0, 4095), (-128, 4095, 0)] {
-        let mut given = Given::plain(40, 40, 5, 12);
+        let mut given = Given::plain(40, 40, 5, 12).with_chroma_format(3);
         given.bank = vec![coefficient; 8 * 752];
         for aps in given.bank.chunks_mut(752) {
             (0..25).for_each(|class| aps[24 * class + 12..24 * class + 24].fill(4096));
@@ -167,8 +168,10 @@ fn extreme_filters() {
         for (index, sample) in given.luma.iter_mut().enumerate() {
             *sample = if (index / 40 + index) % 2 == 0 { low } else { high };
         }
-        given.chroma = given.luma[..400].to_vec();
-        assert_eq!(given.numbers(), [0; 6]);
-        assert!(given.filter_luma().1.iter().all(|&sample| sample < 4096));
+        given.chroma = given.luma.clone();
+        for (number, output) in [given.filter_luma(), given.filter_chroma(0), given.filter_cross(1)] {
+            assert_eq!(number, 0);
+            assert!(output.iter().all(|&sample| sample < 4096));
+        }
     }
 }

@@ -2,6 +2,7 @@
 
 use super::{Given, Random};
 use crate::judge::is_clip;
+use crate::layout::Cell;
 
 /// Vertical or horizontal bands of CTBs, or quarters, numbered from 0.
 fn map(random: &mut Random, columns: usize, rows: usize) -> Vec<u8> {
@@ -45,7 +46,8 @@ fn boundaries(random: &mut Random, size: u32) -> Vec<u16> {
 fn picture(random: &mut Random) -> Given {
     let width = 40 + 8 * random.below(8) as u32;
     let height = 40 + 8 * random.below(8) as u32;
-    let mut given = Given::plain(width, height, 5 + random.below(2) as u8, 8);
+    let plain = Given::plain(width, height, 5 + random.below(2) as u8, 8);
+    let mut given = plain.with_chroma_format(1 + random.below(3) as u8);
     let (columns, rows) = (given.tile_columns.len(), given.tile_rows.len());
     given.slice_count = 4;
     given.slice_params = (0..44).map(|_| random.below(8) as u8).collect();
@@ -97,7 +99,7 @@ fn region(given: &Given, random: &mut Random) -> Vec<u8> {
     let column = given.virtual_columns.first().map_or(0, |&position| i64::from(position));
     let row = given.virtual_rows.first().map_or(0, |&position| i64::from(position));
     let across = i64::from(given.width) / 8;
-    (0..layout.cells(8))
+    (0..layout.cells(Cell::square(8)))
         .map(|block| {
             let (x, y) = (8 * (block % across), 8 * (block / across));
             let ctb = layout.covering(x, y);
@@ -115,46 +117,45 @@ fn region(given: &Given, random: &mut Random) -> Vec<u8> {
 /// The picture with other samples everywhere outside the region.
 fn changed_outside(given: &Given, random: &mut Random) -> Given {
     let mut other = given.clone();
-    let width = given.width as usize;
-    for (index, sample) in other.luma.iter_mut().enumerate() {
-        if !inside(given, index % width, index / width) {
-            *sample = random.below(256) as u16;
-        }
-    }
-    for (index, sample) in other.chroma.iter_mut().enumerate() {
-        let (x, y) = (index % (width / 2), index / (width / 2));
-        if !inside(given, 2 * x, 2 * y) {
-            *sample = random.below(256) as u16;
+    let chroma = given.layout().chroma_cell();
+    for (cell, plane) in [(Cell::LUMA, &mut other.luma), (chroma, &mut other.chroma)] {
+        for (index, sample) in plane.iter_mut().enumerate() {
+            if !inside(given, cell, index) {
+                *sample = random.below(256) as u16;
+            }
         }
     }
     other
 }
 
-fn inside(given: &Given, x: usize, y: usize) -> bool {
-    given.region[(y / 8) * (given.width as usize / 8) + x / 8] == 1
+/// Whether an entry of a plane or map lies in the region: its first luma sample does.
+fn inside(given: &Given, cell: Cell, index: usize) -> bool {
+    let width = i64::from(given.width) / cell.width;
+    let (x, y) = (index as i64 % width * cell.width, index as i64 / width * cell.height);
+    given.region[(y / 8 * (i64::from(given.width) / 8) + x / 8) as usize] == 1
 }
 
-/// True where two planes agree inside the region; an entry stands for `cell` luma samples.
-fn agree<T: PartialEq>(given: &Given, cell: usize, one: &[T], other: &[T]) -> bool {
-    let width = given.width as usize / cell;
-    (0..one.len()).all(|index| {
-        let (x, y) = (index % width, index / width);
-        one[index] == other[index] || !inside(given, cell * x, cell * y)
-    })
+/// True where two planes or maps agree inside the region.
+fn agree<T: PartialEq>(given: &Given, cell: Cell, one: &[T], other: &[T]) -> bool {
+    (0..one.len()).all(|index| one[index] == other[index] || !inside(given, cell, index))
 }
 
-/// True where the two pictures give equal results inside the region.
-fn results_agree(given: &Given, other: &Given) -> bool {
-    agree(given, 4, &given.classes().1, &other.classes().1)
-        && agree(given, 1, &given.filter_luma().1, &other.filter_luma().1)
-        && agree(given, 2, &given.filter_chroma(0).1, &other.filter_chroma(0).1)
-        && agree(given, 2, &given.filter_cross(1).1, &other.filter_cross(1).1)
+/// Which of classes, luma, chroma and cross-component give equal results inside the region.
+fn results_agree(given: &Given, other: &Given) -> [bool; 4] {
+    let chroma = given.layout().chroma_cell();
+    [
+        agree(given, Cell::square(4), &given.classes().1, &other.classes().1),
+        agree(given, Cell::LUMA, &given.filter_luma().1, &other.filter_luma().1),
+        agree(given, chroma, &given.filter_chroma(0).1, &other.filter_chroma(0).1),
+        agree(given, chroma, &given.filter_cross(1).1, &other.filter_cross(1).1),
+    ]
 }
 
 #[test]
 fn outside_never_reaches_isolated_regions() {
     let mut random = Random::new(3);
-    let (mut isolated, mut reached) = (0, 0);
+    // By chroma format: isolated regions, and open ones that each operation was seen to reach into.
+    let (mut isolated, mut reached) = ([0; 4], [[0; 4]; 4]);
     for round in 0..900 {
         let mut given = picture(&mut random);
         given.region = region(&given, &mut random);
@@ -165,11 +166,15 @@ fn outside_never_reaches_isolated_regions() {
         assert_eq!((number, given.numbers()), (0, [0; 6]), "round {round}");
         let other = changed_outside(&given, &mut random);
         let alike = results_agree(&given, &other);
-        assert!(alike || answer == 0, "round {round}");
-        isolated += i32::from(answer == 1);
-        reached += i32::from(!alike);
+        assert!(answer == 0 || alike == [true; 4], "round {round}: {alike:?}");
+        let format = usize::from(given.chroma_format);
+        isolated[format] += i32::from(answer == 1);
+        (0..4).for_each(|operation| reached[format][operation] += i32::from(!alike[operation]));
     }
-    assert!(isolated > 100 && reached > 100, "{isolated} isolated, {reached} reached");
+    for format in 1..4 {
+        let seen = reached[format].iter().all(|&count| count > 20);
+        assert!(isolated[format] > 30 && seen, "{isolated:?} isolated, {reached:?} reached");
+    }
 }
 
 /// 01: a slice, tile or subpicture is isolated whenever filtering across its sides is disabled.

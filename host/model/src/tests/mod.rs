@@ -3,6 +3,7 @@
 
 mod causes;
 mod faults;
+mod formats;
 mod garbage;
 mod isolation;
 mod samples;
@@ -68,7 +69,7 @@ pub(crate) struct Given {
 }
 
 impl Given {
-    /// One tile, slice and subpicture, filtering across all sides enabled, all numbers 0, every CTB listed.
+    /// 4:2:0, one tile, slice and subpicture, filtering across all sides enabled, all numbers 0, every CTB listed.
     pub(crate) fn plain(width: u32, height: u32, ctb_log2: u8, bit_depth: u8) -> Given {
         let columns = width.div_ceil(1 << ctb_log2) as usize;
         let rows = height.div_ceil(1 << ctb_log2) as usize;
@@ -102,6 +103,14 @@ impl Given {
             position: (0, 0),
             causes: 4,
         }
+    }
+
+    /// The same with chroma of a format from 1 to 3, all samples 0.
+    pub(crate) fn with_chroma_format(mut self, format: u8) -> Given {
+        self.chroma_format = format;
+        let (layout, plane) = (self.layout(), self.layout().chroma_cell());
+        self.chroma = vec![0; layout.cells(plane) as usize];
+        self
     }
 
     pub(crate) fn layout(&self) -> Layout<'_> {

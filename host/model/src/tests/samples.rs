@@ -76,28 +76,6 @@ fn list_and_flag() {
     assert!((0..48 * 16).all(|index| index % 48 < 32 || output[index] == all[index]));
 }
 
-/// A chroma tap two rows down and up, in a ramp of 3 for each row: the sum is 0 but where
-/// the line-buffer boundary (luma row 28, chroma row 14) or the plane cuts one arm.
-#[test]
-fn chroma_beside_line_buffer_boundary() {
-    let mut given = Given::plain(32, 32, 5, 8);
-    given.chroma = (0..256).map(|index| 100 + 3 * (index / 16) as u16).collect();
-    given.ctb_params[1] = 1;
-    given.ctb_params[4] = 7;
-    given.slice_params[8] = 2;
-    given.bank[752 * 2 + 600 + 12 * 7] = 64;
-    given.bank[752 * 2 + 600 + 12 * 7 + 6] = 256;
-    let (number, output) = given.filter_chroma(0);
-    assert_eq!(number, 0);
-    let change: Vec<i32> = (0..16)
-        .map(|y| i32::from(output[y * 16 + 5]) - i32::from(given.chroma[y * 16 + 5]))
-        .collect();
-    // Row 0 has +6 and 0, row 1 +6 and −3. Rows 13 and 14 have offset 0, row 15 has
-    // offset 1 with the plane below: 0 and −3, ( −192 + 64 ) >> 7. Row 12 has +3, −3.
-    let expected = [3, 2, 0, 0, 0, 0, 0, 0, 0, 0, 0, 0, 0, 0, 0, -1];
-    assert_eq!(change, expected);
-}
-
 /// Cr takes its own flag and alternative.
 #[test]
 fn chroma_bytes_by_component() {

@@ -2,7 +2,7 @@
 
 use super::Given;
 use crate::classes::{activity, class_of_sums, window, Sums, Window};
-use crate::edges::{edges, line_rule, padded, Clip, ClipCause};
+use crate::edges::{chroma_edges, edges, line_rule, padded, Clip, ClipCause};
 use crate::filters::luma_sample;
 use crate::layout::{Ctb, Plane};
 use crate::taps::{chroma_reach, cross_reach, luma_reach, luma_taps, rounded, Filter, Reach, TAP_ORDER};
@@ -103,7 +103,7 @@ fn p10_likewise_lower_right_and_chroma() {
     assert_eq!((found.clip_bottom, found.clip_right), (None, None));
     assert_eq!(padded(&layout, &luma, ctb, &found, (33, 32)), (31, 32));
     let chroma = Plane::chroma(&layout, &given.chroma);
-    let found = edges(&layout, ctb, 30, 30);
+    let found = chroma_edges(&layout, ctb, 15, 15);
     assert_eq!(padded(&layout, &chroma, ctb, &found, (17, 16)), (15, 16));
     assert_eq!(padded(&layout, &chroma, ctb, &found, (17, 15)), (17, 15));
 }
