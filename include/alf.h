@@ -15,7 +15,8 @@
  *   width, height       of the luma plane: multiples of 8, from 8 to 4096
  *   ctb_log2            5, 6 or 7; a CTB has S = 2^ctb_log2 luma samples a side
  *   bit_depth           B, 8 to 12
- *   chroma_format       0: luma alone; 1: 4:2:0, chroma planes of width/2 by height/2
+ *   chroma_format       0: luma alone. Else the chroma planes are, for 1: 4:2:0, width/2 by height/2; for 2: 4:2:2, width/2 by height; for
+ *                       3: 4:4:4, width by height
  *   slice_count         N, 1 to 256
  *   across_tiles,
  *   across_slices       true: filtering goes across the sides of tiles, of slices
@@ -80,7 +81,7 @@ static inline const char *alf_meaning(uint8_t number)
         "width or height is not a multiple of 8 from 8 to 4096",
         "CTB exponent is not 5, 6 or 7",
         "bit depth is not 8 to 12",
-        "chroma format is not 0 or 1, or a chroma filter was asked for a picture without chroma or a component that is not 0 or 1",
+        "chroma format is not 0 to 3, or a chroma filter was asked for a picture without chroma or a component that is not 0 or 1",
         "slice count is not 1 to 256, or a plane or a table does not have the length that the sizes call for",
         "virtual boundaries are more than three, out of range, not multiples of 8, not rising or less than a CTB apart",
         "tile numbers do not begin at 0 or do not rise by 0 or 1",
@@ -218,7 +219,8 @@ uint8_t alf_isolated(
  * causes has 4 entries, for top, bottom, left and right; each becomes an enum alf_clip_cause. Where the number returned is not 0 they stay as they
  * were. Where several causes apply, the first counts of: at the top the line-buffer boundary, a virtual boundary, the CTB's side; at the bottom a
  * virtual boundary, the line-buffer boundary, the CTB's side; left and right a virtual boundary, the CTB's side. A CTB's side is closed by a tile
- * before a slice before a subpicture. The picture's rim is open. Judges the picture, the lengths and last the position: 1 to 9 and 15. */
+ * before a slice before a subpicture. The picture's rim is open. The line-buffer boundary is luma's, 4 rows above the CTB's bottom, whatever the
+ * chroma format is. Judges the picture, the lengths and last the position: 1 to 9 and 15. */
 uint8_t alf_clip_causes(
     uint32_t width, uint32_t height, uint8_t ctb_log2, uint8_t bit_depth, uint8_t chroma_format, uint32_t slice_count,
     bool across_tiles, bool across_slices,

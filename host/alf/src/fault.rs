@@ -54,7 +54,7 @@ impl Fault {
             Fault::CtbSize => "CTB exponent is not 5, 6 or 7",
             Fault::BitDepth => "bit depth is not 8 to 12",
             Fault::ChromaFormat => {
-                "chroma format is not 0 or 1, or a chroma filter was asked for a picture without chroma or a component that is not 0 or 1"
+                "chroma format is not 0 to 3, or a chroma filter was asked for a picture without chroma or a component that is not 0 or 1"
             }
             Fault::Length => "slice count is not 1 to 256, or a plane or a table does not have the length that the sizes call for",
             Fault::VirtualBoundary => {

@@ -3,10 +3,12 @@
 //! Each operation judges what it is given before it works. It asks nothing of its caller: wrong sizes, lengths or numbers are answered with a
 //! [`Fault`], and then every output is left as it was.
 mod cause;
+mod chroma_format;
 mod fault;
 mod ffi;
 
 pub use cause::{ClipCause, ClipCauses};
+pub use chroma_format::chroma_ratio;
 pub use fault::Fault;
 
 /// A picture's sizes, switches and boundary tables: what every operation is given.
@@ -19,7 +21,8 @@ pub struct Picture<'a> {
     pub ctb_log2: u8,
     /// 8 to 12.
     pub bit_depth: u8,
-    /// ChromaArrayType: 0 for luma alone, 1 for 4:2:0.
+    /// ChromaArrayType: 0 for luma alone, 1 for 4:2:0, 2 for 4:2:2, 3 for 4:4:4. [`Picture::chroma_width`] and [`Picture::chroma_height`] are the
+    /// size of the chroma planes.
     pub chroma_format: u8,
     /// How many slices have parameters, 1 to 256.
     pub slice_count: u32,
@@ -95,7 +98,8 @@ pub fn isolated(picture: &Picture, region: &[u8]) -> Result<bool, Fault> {
     Ok(answer == 1)
 }
 
-/// What closes the sides of the luma sample in column `x` and row `y`, as far as its neighbours reach.
+/// What closes the sides of the luma sample in column `x` and row `y`, as far as its neighbours reach. The line-buffer boundary is luma's, whatever
+/// the chroma format is.
 pub fn clip_causes(picture: &Picture, x: u32, y: u32) -> Result<ClipCauses, Fault> {
     let mut numbers = [0; 4];
     clip_cause_numbers(picture, x, y, &mut numbers)?;
