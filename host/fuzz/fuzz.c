@@ -16,9 +16,12 @@ static const char *const names[OPERATIONS] = {"classes", "luma", "chroma", "cros
 /* How many answers there are: accepted, and the faults. */
 #define ANSWERS (ALF_POSITION + 1)
 
-/* How many calls of each operation had each answer; and for libFuzzer, which looks here for what is new. */
+/* How many chroma formats there are: luma alone, 4:2:0, 4:2:2 and 4:4:4. */
+#define FORMATS 4
+
+/* How many calls of each operation had each answer; and for libFuzzer, which looks here for what is new, by chroma format. */
 static unsigned long answers[OPERATIONS][ANSWERS];
-__attribute__((section("__libfuzzer_extra_counters"))) static uint8_t reached[OPERATIONS * ANSWERS];
+__attribute__((section("__libfuzzer_extra_counters"))) static uint8_t reached[OPERATIONS * ANSWERS * FORMATS];
 
 static struct buffer buffers[BUFFERS];
 
@@ -111,40 +114,48 @@ static void fill_map(int name, size_t columns, size_t rows, uint32_t numbers, bo
         put(&buffers[name], k, (uint32_t)(by_row ? k / columns : k % columns) % numbers);
 }
 
+/* How many samples a chroma plane has; with luma alone there is none. */
+static size_t chroma_length(const struct scalars *s)
+{
+    /* how many luma samples a chroma sample stands for, SubWidthC * SubHeightC */
+    static const size_t luma_samples[FORMATS] = {0, 4, 2, 1};
+    return s->chroma_format == 0 ? 0 : (size_t)s->width * s->height / luma_samples[s->chroma_format];
+}
+
 /* A picture that is accepted, from a few bytes. */
 static struct scalars make_picture(struct bytes *from)
 {
     uint32_t style = take(from), state = take4(from) | 1;
     struct scalars s = {
-        8 + 8 * (take(from) % 16), 8 + 8 * (take(from) % 16), (uint8_t)(5 + take(from) % 3), (uint8_t)(8 + take(from) % 5), style & 1,
-        1 + take(from) % 4, style & 2, style & 4, (style >> 3) & 1, 0, 0,
+        8 + 8 * (take(from) % 16), 8 + 8 * (take(from) % 16), (uint8_t)(5 + take(from) % 3), (uint8_t)(8 + take(from) % 5),
+        (uint8_t)(take(from) % FORMATS), 1 + take(from) % 4, style & 1, style & 2, (style >> 2) & 1, 0, 0,
     };
     s.x = take(from) % s.width;
     s.y = take(from) % s.height;
     size_t ctb = (size_t)1 << s.ctb_log2;
     size_t columns = (s.width + ctb - 1) / ctb, rows = (s.height + ctb - 1) / ctb;
-    set_length(&buffers[VIRTUAL_COLUMNS], s.width > 8 ? (style >> 4) & 1 : 0);
-    set_length(&buffers[VIRTUAL_ROWS], s.height > 8 ? (style >> 5) & 1 : 0);
+    set_length(&buffers[VIRTUAL_COLUMNS], s.width > 8 ? (style >> 3) & 1 : 0);
+    set_length(&buffers[VIRTUAL_ROWS], s.height > 8 ? (style >> 4) & 1 : 0);
     if (buffers[VIRTUAL_COLUMNS].length)
         put(&buffers[VIRTUAL_COLUMNS], 0, 8 + 8 * (take(from) % (s.width / 8 - 1)));
     if (buffers[VIRTUAL_ROWS].length)
         put(&buffers[VIRTUAL_ROWS], 0, 8 + 8 * (take(from) % (s.height / 8 - 1)));
     fill_map(TILE_COLUMNS, columns, 1, 64, false);
     fill_map(TILE_ROWS, rows, 1, 64, false);
-    fill_map(SLICE_MAP, columns, rows, s.slice_count, style & 64);
-    fill_map(SUBPIC_MAP, columns, rows, 64, style & 128);
+    fill_map(SLICE_MAP, columns, rows, s.slice_count, style & 32);
+    fill_map(SUBPIC_MAP, columns, rows, 64, style & 64);
     fill(SUBPIC_ACROSS, 64, &state, 2);
     fill(SLICE_PARAMS, 11 * s.slice_count, &state, 8);
     fill_bank(&state, s.bit_depth);
-    fill_ctb_params(&state, columns * rows, s.chroma_format);
+    fill_ctb_params(&state, columns * rows, s.chroma_format != 0);
     fill(CTB_LIST, take(from) % 20, &state, (uint32_t)(columns * rows));
     fill(FIXED_MAP, 400, &state, 64);
     fill(LUMA, s.width * s.height, &state, 1u << s.bit_depth);
-    fill(CHROMA, s.width * s.height / 4, &state, 1u << s.bit_depth);
+    fill(CHROMA, chroma_length(&s), &state, 1u << s.bit_depth);
     fill(REGION, s.width * s.height / 64, &state, 2);
     fill(CLASS_MAP, s.width * s.height / 16, &state, 256);
     fill(LUMA_OUTPUT, s.width * s.height, &state, 65536);
-    fill(CHROMA_OUTPUT, s.width * s.height / 4, &state, 65536);
+    fill(CHROMA_OUTPUT, chroma_length(&s), &state, 65536);
     fill(ISOLATED, 1, &state, 256);
     fill(CAUSES, 4, &state, 256);
     return s;
@@ -268,6 +279,6 @@ int LLVMFuzzerTestOneInput(const uint8_t *data, size_t size)
     if (number == 0)
         check_entries(op, &s);
     answers[op][number]++;
-    reached[op * ANSWERS + number] = 1;
+    reached[(op * ANSWERS + number) * FORMATS + s.chroma_format % FORMATS] = 1;
     return 0;
 }

@@ -4,6 +4,9 @@ use crate::run::Outcome;
 use raspbegonia::ClipCause;
 use std::fmt;
 
+/// The chroma formats by their numbers.
+const FORMATS: [&str; 4] = ["luma alone", "4:2:0", "4:2:2", "4:4:4"];
+
 /// A kind by its name, and whether a picture is of it.
 type Kind = (&'static str, fn(&Input) -> bool);
 
@@ -18,6 +21,9 @@ const KINDS: &[Kind] = &[
     ("three virtual boundaries", |i| {
         i.virtual_columns.len() == 3 || i.virtual_rows.len() == 3
     }),
+    ("virtual row on a CTB's side", |i| {
+        i.virtual_rows.iter().any(|row| u32::from(*row) % i.ctb() == 0)
+    }),
     ("tiles, switch off", |i| {
         several(&i.tile_columns) && several(&i.tile_rows) && !i.across_tiles
     }),
@@ -29,7 +35,6 @@ const KINDS: &[Kind] = &[
     ("subpictures, mixed switches", mixed_subpictures),
     ("list empty", |i| i.ctb_list.is_empty()),
     ("list with repeats", |i| i.ctb_list.len() > i.ctbs()),
-    ("luma alone", |i| i.chroma_format == 0),
     ("flat", |i| !several(&i.luma)),
     ("extreme samples", |i| {
         several(&i.luma) && i.luma.iter().all(|n| *n == 0 || *n == (1 << i.bit_depth) - 1)
@@ -49,37 +54,102 @@ fn mixed_subpictures(input: &Input) -> bool {
     several(&switches)
 }
 
-/// How many pictures of each kind.
-pub struct Coverage(Vec<usize>);
+/// Pictures of one chroma format, and how many of them were of each kind.
+struct Seen {
+    pictures: usize,
+    kinds: Vec<usize>,
+}
+
+impl Seen {
+    fn nothing() -> Seen {
+        Seen {
+            pictures: 0,
+            kinds: vec![0; KINDS.len()],
+        }
+    }
+
+    fn add(&mut self, other: &Seen) {
+        self.pictures += other.pictures;
+        self.kinds.iter_mut().zip(&other.kinds).for_each(|(n, more)| *n += more);
+    }
+
+    /// The kinds that no picture was of.
+    fn missing(&self) -> impl Iterator<Item = &'static str> + '_ {
+        self.kinds.iter().zip(KINDS).filter(|(n, _)| **n == 0).map(|(_, kind)| kind.0)
+    }
+}
+
+impl fmt::Display for Seen {
+    fn fmt(&self, f: &mut fmt::Formatter) -> fmt::Result {
+        let parts: Vec<String> = KINDS.iter().zip(&self.kinds).map(|(kind, n)| format!("{} {n}", kind.0)).collect();
+        write!(f, "{} pictures: {}", self.pictures, parts.join(", "))
+    }
+}
+
+/// How many pictures of each kind, by chroma format.
+pub struct Coverage([Seen; 4]);
 
 impl Default for Coverage {
     fn default() -> Self {
-        Coverage(vec![0; KINDS.len()])
+        Coverage(FORMATS.map(|_| Seen::nothing()))
     }
 }
 
 impl Coverage {
     pub fn count(&mut self, input: &Input) {
-        for (seen, (_, is)) in self.0.iter_mut().zip(KINDS) {
-            *seen += usize::from(is(input));
-        }
+        self.0[usize::from(input.chroma_format)].add(&Seen {
+            pictures: 1,
+            kinds: KINDS.iter().map(|(_, is)| usize::from(is(input))).collect(),
+        });
     }
 
-    /// The kinds that no picture was of.
+    /// What another run has seen too.
+    pub fn add(&mut self, other: &Coverage) {
+        self.0.iter_mut().zip(&other.0).for_each(|(seen, more)| seen.add(more));
+    }
+
+    /// The pictures of each chroma format.
+    pub fn pictures(&self) -> [usize; 4] {
+        [0, 1, 2, 3].map(|format: usize| self.0[format].pictures)
+    }
+
+    /// The kinds that no picture was of, whatever its chroma format.
     pub fn missing(&self) -> Vec<&'static str> {
-        self.0
-            .iter()
-            .zip(KINDS)
-            .filter(|(seen, _)| **seen == 0)
-            .map(|(_, kind)| kind.0)
+        self.all().missing().collect()
+    }
+
+    /// The kinds that no picture of some chroma format was of.
+    pub fn missing_by_format(&self) -> Vec<String> {
+        let formats = FORMATS.iter().zip(&self.0);
+        formats
+            .flat_map(|(format, seen)| seen.missing().map(move |kind| format!("{format}: {kind}")))
             .collect()
+    }
+
+    /// Pictures and kinds of each chroma format by itself, to be printed.
+    pub fn by_format(&self) -> Vec<String> {
+        FORMATS
+            .iter()
+            .zip(&self.0)
+            .map(|(format, seen)| format!("{format}, {seen}"))
+            .collect()
+    }
+
+    fn all(&self) -> Seen {
+        let mut all = Seen::nothing();
+        self.0.iter().for_each(|seen| all.add(seen));
+        all
     }
 }
 
 impl fmt::Display for Coverage {
     fn fmt(&self, f: &mut fmt::Formatter) -> fmt::Result {
-        let parts: Vec<String> = self.0.iter().zip(KINDS).map(|(seen, kind)| format!("{} {seen}", kind.0)).collect();
-        write!(f, "{}", parts.join(", "))
+        let formats: Vec<String> = FORMATS
+            .iter()
+            .zip(self.pictures())
+            .map(|(format, n)| format!("{format} {n}"))
+            .collect();
+        write!(f, "{}, {}", self.all(), formats.join(", "))
     }
 }
 

@@ -56,9 +56,10 @@ fn set<T>(place: &mut T, value: T) -> bool {
     true
 }
 
-/// A byte from `first` up: too large.
+/// A byte that is too large: `first`, the least of them, half of the time, else any from there up.
 fn over(random: &mut Random, first: u8) -> u8 {
-    random.between(i64::from(first), 255) as u8
+    let last = random.pick(&[first, 255]);
+    random.between(i64::from(first), i64::from(last)) as u8
 }
 
 /// Puts a number at a random place of a list.
@@ -137,7 +138,7 @@ pub const DAMAGES: &[Damage] = &[
     damage(3, "bit depth", every, |i, r| {
         set(&mut i.bit_depth, r.pick(&[0, 7, 13, 16, 31, 32, 255]))
     }),
-    damage(4, "chroma format", every, |i, r| set(&mut i.chroma_format, over(r, 2))),
+    damage(4, "chroma format", every, |i, r| set(&mut i.chroma_format, over(r, 4))),
     damage(4, NO_CHROMA, component, |i, _| set(&mut i.chroma_format, 0)),
     damage(4, "component", component, |i, r| set(&mut i.component, over(r, 2))),
     damage(5, "slice count", every, |i, r| {
@@ -155,6 +156,7 @@ pub const DAMAGES: &[Damage] = &[
     damage(5, "fixed map's length", luma_filter, |i, r| resize(&mut i.fixed_map, r)),
     damage(5, "luma plane's length", luma_plane, |i, r| resize(&mut i.luma, r)),
     damage(5, "chroma plane's length", component, |i, r| resize(&mut i.chroma, r)),
+    damage(5, "another chroma format", component, other_format),
     damage(5, "luma output's length", luma_filter, |i, r| resize(&mut i.luma_output, r)),
     damage(5, "chroma output's length", component, |i, r| resize(&mut i.chroma_output, r)),
     damage(5, "class map's length", classes, |i, r| resize(&mut i.class_map, r)),
@@ -167,7 +169,8 @@ pub const DAMAGES: &[Damage] = &[
         set(&mut i.virtual_rows, bad_boundaries(r, i.height, 1 << i.ctb_log2))
     }),
     damage(7, "first tile column", every, |i, r| set(&mut i.tile_columns[0], over(r, 1))),
-    damage(7, "tile row", every, |i, r| put(&mut i.tile_rows, r, |r| over(r, 40))),
+    // 4,096 rows are 128 CTBs of 32, so no row can be followed by tile row 129
+    damage(7, "tile row", every, |i, r| put(&mut i.tile_rows, r, |r| over(r, 129))),
     damage(8, "slice number", every, |i, r| {
         i.slice_count < 256 && put_number(&mut i.slice_map, r, i.slice_count as u8)
     }),
@@ -215,6 +218,12 @@ fn bad_size(random: &mut Random) -> u32 {
         1 => random.between(1, 7) as u32,
         _ => (8 * random.between(1, 511) + random.between(1, 7)) as u32,
     }
+}
+
+/// A chroma format whose planes have another size.
+fn other_format(input: &mut Input, random: &mut Random) -> bool {
+    let next = 1 + (input.chroma_format + random.byte(2)) % 3;
+    input.chroma_format != 0 && set(&mut input.chroma_format, next)
 }
 
 /// A sample of 2^bit depth or more.

@@ -95,12 +95,34 @@ impl Input {
         (y >> self.ctb_log2) * self.columns() + (x >> self.ctb_log2)
     }
 
-    /// The planes' sizes.
     pub fn luma_length(&self) -> usize {
         self.width as usize * self.height as usize
     }
 
-    pub fn chroma_length(&self) -> usize {
-        self.luma_length() / 4
+    /// Width and height of a chroma plane; 0 where there is no chroma.
+    pub fn chroma_size(&self) -> (usize, usize) {
+        let picture = self.picture();
+        (picture.chroma_width() as usize, picture.chroma_height() as usize)
+    }
+
+    /// The picture as the wrapper takes it.
+    pub fn picture(&self) -> raspbegonia::Picture<'_> {
+        raspbegonia::Picture {
+            width: self.width,
+            height: self.height,
+            ctb_log2: self.ctb_log2,
+            bit_depth: self.bit_depth,
+            chroma_format: self.chroma_format,
+            slice_count: self.slice_count,
+            across_tiles: self.across_tiles,
+            across_slices: self.across_slices,
+            virtual_columns: &self.virtual_columns,
+            virtual_rows: &self.virtual_rows,
+            tile_columns: &self.tile_columns,
+            tile_rows: &self.tile_rows,
+            slice_map: &self.slice_map,
+            subpic_map: &self.subpic_map,
+            subpic_across: &self.subpic_across,
+        }
     }
 }

@@ -2,6 +2,9 @@
 use crate::input::Input;
 use crate::random::Random;
 
+/// Chroma formats to choose from or to go through in turn: 4:2:0, 4:2:2 and 4:4:4 as often as each other, luma alone once in ten.
+pub const CHROMA_FORMATS: [u8; 10] = [1, 2, 3, 1, 2, 3, 1, 2, 3, 0];
+
 /// A multiple of 8: often a few CTBs, whole or not, sometimes less than one.
 fn size(random: &mut Random, ctb: u32) -> u32 {
     let most = if ctb == 128 { 384 } else { 4 * ctb };
@@ -122,7 +125,7 @@ fn raster_slices(random: &mut Random, ctbs: usize, count: u64) -> Vec<u8> {
 }
 
 /// The layout of an accepted picture; the tables of the filters, the planes and the outputs are still empty.
-pub fn layout(random: &mut Random, ctb_log2: u8) -> Input {
+pub fn layout(random: &mut Random, ctb_log2: u8, chroma_format: u8) -> Input {
     let ctb = 1 << ctb_log2;
     let (width, height) = sizes(random, ctb);
     let (columns, rows) = (width.div_ceil(ctb) as usize, height.div_ceil(ctb) as usize);
@@ -138,7 +141,7 @@ pub fn layout(random: &mut Random, ctb_log2: u8) -> Input {
         height,
         ctb_log2,
         bit_depth: random.between(8, 12) as u8,
-        chroma_format: u8::from(!random.once_in(8)),
+        chroma_format,
         slice_count: slice_count as u32,
         across_tiles: random.flip(),
         across_slices: random.flip(),

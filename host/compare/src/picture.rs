@@ -112,9 +112,10 @@ pub fn causes(random: &mut Random) -> Vec<u8> {
 }
 
 /// An accepted picture, whole. The outputs hold random numbers, so that what is not written shows.
-pub fn picture(random: &mut Random, ctb_log2: u8) -> Input {
-    let mut input = layout(random, ctb_log2);
+pub fn picture(random: &mut Random, ctb_log2: u8, chroma_format: u8) -> Input {
+    let mut input = layout(random, ctb_log2, chroma_format);
     let (width, height) = (input.width as usize, input.height as usize);
+    let (chroma_width, chroma_height) = input.chroma_size();
     input.slice_params = slice_params(random, input.slice_count);
     input.bank = bank(random, input.bit_depth);
     input.ctb_params = (0..input.ctbs()).flat_map(|k| ctb_params(random, &input, k)).collect();
@@ -123,10 +124,10 @@ pub fn picture(random: &mut Random, ctb_log2: u8) -> Input {
     input.fixed_filters = (0..768).map(|_| coefficient(random, style)).collect();
     input.fixed_map = (0..400).map(|_| random.byte(64)).collect();
     input.luma = samples(random, width, height, input.bit_depth);
-    input.chroma = samples(random, width / 2, height / 2, input.bit_depth);
+    input.chroma = samples(random, chroma_width, chroma_height, input.bit_depth);
     input.region = region::some_region(random, &input);
     input.position = position::inside(random, &input);
-    input.class_map = (0..width * height / 16).map(|_| random.byte(256)).collect();
+    input.class_map = (0..input.luma_length() / 16).map(|_| random.byte(256)).collect();
     input.luma_output = (0..input.luma.len()).map(|_| random.next() as u16).collect();
     input.chroma_output = (0..input.chroma.len()).map(|_| random.next() as u16).collect();
     input.isolated = random.pick(&[0, 1, 255]);

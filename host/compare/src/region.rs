@@ -40,18 +40,19 @@ pub fn some_region(random: &mut Random, input: &Input) -> Vec<u8> {
     }
 }
 
-/// Whether entry k of an operation's output lies in the region.
+/// Whether entry k of an operation's output lies in the region: its first luma sample does.
 pub fn output_inside(input: &Input, operation: Operation, k: usize) -> bool {
-    let unit = match operation {
-        Operation::Classes => 4,
-        Operation::Luma => 1,
-        _ => 2,
+    // how many luma columns and rows an entry stands for
+    let (columns, rows) = match operation {
+        Operation::Classes => (4, 4),
+        Operation::Luma => (1, 1),
+        _ => input.picture().chroma_ratio().expect("a picture with chroma"),
     };
-    let columns = input.width as usize / unit;
-    luma_inside(input, unit * (k % columns), unit * (k / columns))
+    let (columns, rows, width) = (columns as usize, rows as usize, (input.width / columns) as usize);
+    luma_inside(input, columns * (k % width), rows * (k / width))
 }
 
-pub fn luma_inside(input: &Input, x: usize, y: usize) -> bool {
+fn luma_inside(input: &Input, x: usize, y: usize) -> bool {
     input.region[y / 8 * (input.width as usize / 8) + x / 8] == 1
 }
 

@@ -57,16 +57,8 @@ impl Memory {
         }
     }
 
-    fn picture(&self, input: &Input) -> raspbegonia::Picture<'_> {
+    fn picture<'a>(&'a self, input: &'a Input) -> raspbegonia::Picture<'a> {
         raspbegonia::Picture {
-            width: input.width,
-            height: input.height,
-            ctb_log2: input.ctb_log2,
-            bit_depth: input.bit_depth,
-            chroma_format: input.chroma_format,
-            slice_count: input.slice_count,
-            across_tiles: input.across_tiles,
-            across_slices: input.across_slices,
             virtual_columns: self.u16s[0].get(),
             virtual_rows: self.u16s[1].get(),
             tile_columns: self.u8s[0].get(),
@@ -74,6 +66,7 @@ impl Memory {
             slice_map: self.u8s[2].get(),
             subpic_map: self.u8s[3].get(),
             subpic_across: self.u8s[4].get(),
+            ..input.picture()
         }
     }
 
@@ -237,11 +230,12 @@ pub fn agreed_in(memory: &Memory, operation: Operation, input: &Input) -> Outcom
         let at = found.output.iter().zip(&expected.output).position(|(f, e)| f != e);
         let entry = at.map(|k| format!("entry {k} is {}, the model's {}", found.output[k], expected.output[k]));
         panic!(
-            "{operation:?} of {} by {}, CTB {}, {} bits, position {:?}: answer {}, the model's {}; {}",
+            "{operation:?} of {} by {}, CTB {}, {} bits, chroma format {}, position {:?}: answer {}, the model's {}; {}",
             input.width,
             input.height,
             input.ctb(),
             input.bit_depth,
+            input.chroma_format,
             input.position,
             found.number,
             expected.number,

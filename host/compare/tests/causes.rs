@@ -3,7 +3,7 @@
 use compare::coverage::CauseCoverage;
 use compare::guarded::Side;
 use compare::input::{Input, Operation};
-use compare::layout::layout;
+use compare::layout::{layout, CHROMA_FORMATS};
 use compare::picture::causes;
 use compare::position;
 use compare::random::Random;
@@ -59,7 +59,8 @@ fn nothing_else_moved(cause: ClipCause, with: &[Outcome], without: &[Outcome], c
 
 fn one_picture(seed: u64, ctb_log2: u8, coverage: &mut CauseCoverage) {
     let mut random = Random::new(seed);
-    let mut input = layout(&mut random, ctb_log2);
+    let chroma_format = random.pick(&CHROMA_FORMATS);
+    let mut input = layout(&mut random, ctb_log2, chroma_format);
     input.causes = causes(&mut random);
     let side = random.pick(&[Side::Before, Side::After]);
     let positions: Vec<_> = (0..POSITIONS).map(|_| position::any(&mut random, &input)).collect();

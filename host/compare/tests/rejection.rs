@@ -2,6 +2,7 @@
 use compare::damage::{Damage, DAMAGES, NO_CHROMA};
 use compare::guarded::Side;
 use compare::input::{Input, Operation};
+use compare::layout::CHROMA_FORMATS;
 use compare::picture::picture;
 use compare::random::Random;
 use compare::run::{agreed, before};
@@ -31,7 +32,8 @@ fn judged(input: &Input, done: &[&Damage], side: Side) {
 
 /// A small accepted picture, and on which side its memory is guarded.
 fn small_picture(random: &mut Random) -> (Input, Side) {
-    (picture(random, 5), random.pick(&[Side::Before, Side::After]))
+    let chroma_format = random.pick(&CHROMA_FORMATS);
+    (picture(random, 5, chroma_format), random.pick(&[Side::Before, Side::After]))
 }
 
 #[test]
