@@ -7,6 +7,7 @@
  *   summed along a row of cells for each block, then over rows of cells.
  * - Then blocks of 4 by 4. For luma the block's class picks coefficients and clips, its transpose their order, and each tap runs over the
  *   four samples of a row. Chroma and cross-component have one filter for a CTB, so they can also go by whole rows of it: BLOCK says which.
+ * - The chroma formats share one code. Cross-component, whose inner loop depends on the format, is inlined once for each.
  * - Arithmetic is in int, as decoders have it. With differences and clips in 16 bits, as the library has them, gcc 12 at -O3 made whole rows
  *   of chroma about three times and of cross-component one and a half times as quick as here; luma got no quicker.
  *
@@ -19,7 +20,7 @@
 #include <stdlib.h>
 #include <string.h>
 
-/* The file is compiled twice, with other options. VARIANT tells the two apart. */
+/* The file is compiled more than once, with other options. VARIANT tells the builds apart. */
 #define JOIN(name, variant) name##_##variant
 #define WITH_VARIANT(name, variant) JOIN(name, variant)
 #define NAME(name) WITH_VARIANT(baseline_##name, VARIANT)
@@ -32,9 +33,10 @@
 
 enum { MAX_BLOCKS = 128 / 4, MAX_CELLS = 128 / 2 + 2, APS = 752, CLASSES = 25 };
 
-/* What the library is given too, in the same layout. Width and height are those of luma. */
+/* What the library is given too, in the same layout. Width and height are those of luma; sub_width and sub_height are how many luma samples
+ * a chroma sample spans, across and down. */
 struct input {
-    int32_t width, height, ctb_log2, bit_depth;
+    int32_t width, height, ctb_log2, bit_depth, sub_width, sub_height;
     const uint8_t *slice_map, *slice_params, *ctb_params, *fixed_map;
     const int16_t *bank, *fixed_filters;
 };
@@ -45,9 +47,10 @@ struct plane {
     ptrdiff_t stride;
 };
 
-/* A CTB's part of a plane: where it begins, how much of it lies in the picture, its full height, and whether the line-buffer rule is on. */
+/* A CTB's part of a plane: where it begins, how much of it lies in the picture, how many rows a whole one has, and whether the line-buffer
+ * rule is on. */
 struct area {
-    int x, y, width, height, side;
+    int x, y, width, height, rows;
     bool line;
 };
 
@@ -61,14 +64,18 @@ static int ctb_columns(const struct input *in) { return (in->width + (1 << in->c
 
 static int ctb_count(const struct input *in) { return ctb_columns(in) * ((in->height + (1 << in->ctb_log2) - 1) >> in->ctb_log2); }
 
-/* In samples of luma (half is 0) or of chroma (half is 1). */
-static struct area area_of(const struct input *in, int address, int half)
+/* In samples of a plane of which each spans so many luma samples, across and down. */
+static struct area area_of(const struct input *in, int address, int across, int down)
 {
-    int side = 1 << (in->ctb_log2 - half);
-    int x = address % ctb_columns(in) * side, y = address / ctb_columns(in) * side;
-    int height = (in->height >> half) - y;
-    return (struct area){x, y, smaller(side, (in->width >> half) - x), smaller(side, height), side, height >= side};
+    int columns = (1 << in->ctb_log2) / across, rows = (1 << in->ctb_log2) / down;
+    int x = address % ctb_columns(in) * columns, y = address / ctb_columns(in) * rows;
+    int height = in->height / down - y;
+    return (struct area){x, y, smaller(columns, in->width / across - x), smaller(rows, height), rows, height >= rows};
 }
+
+static struct area luma_area(const struct input *in, int address) { return area_of(in, address, 1, 1); }
+
+static struct area chroma_area(const struct input *in, int address) { return area_of(in, address, in->sub_width, in->sub_height); }
 
 static const uint8_t *slice_of(const struct input *in, int address) { return in->slice_params + 11 * in->slice_map[address]; }
 
@@ -111,8 +118,8 @@ static void sum_cells(const struct area *a, const struct plane *luma, struct sum
     for (int r = 0; r < a->height / 2 + 2; r++) {
         int y = 2 * r - 2;
         const uint16_t *row = sample_at(luma, a->x - 2, a->y + y);
-        const uint16_t *above = a->line && y == a->side - 4 ? row : row - luma->stride;
-        const uint16_t *below = a->line && y == a->side - 6 ? row + luma->stride : row + 2 * luma->stride;
+        const uint16_t *above = a->line && y == a->rows - 4 ? row : row - luma->stride;
+        const uint16_t *below = a->line && y == a->rows - 6 ? row + luma->stride : row + 2 * luma->stride;
         int cells[DIRECTIONS][MAX_CELLS];
         cell_row(above, row, row + luma->stride, below, a->width / 2 + 2, cells);
         for (int d = 0; d < DIRECTIONS; d++)
@@ -145,7 +152,7 @@ static void classify(const struct area *a, const struct plane *luma, int bit_dep
     struct sums sums;
     sum_cells(a, luma, &sums);
     for (int k = 0; k < a->height / 4; k++) {
-        bool over = a->line && 4 * k == a->side - 8, under = a->line && 4 * k == a->side - 4;
+        bool over = a->line && 4 * k == a->rows - 8, under = a->line && 4 * k == a->rows - 4;
         int first = 2 * k + under, last = 2 * k + (over ? 2 : 3);
         for (int b = 0; b < a->width / 4; b++) {
             int sum[DIRECTIONS] = {0};
@@ -161,7 +168,7 @@ void NAME(classes)(const struct input *in, const struct plane *luma, uint8_t *re
 {
     ptrdiff_t stride = in->width / 4;
     for (int address = 0; address < ctb_count(in); address++) {
-        struct area a = area_of(in, address, 0);
+        struct area a = luma_area(in, address);
         classify(&a, luma, in->bit_depth, class_map + a.y / 4 * stride + a.x / 4, stride);
     }
 }
@@ -177,7 +184,7 @@ struct rows {
 /* By the row's distance from the CTB's bottom: near the line-buffer boundary the taps stay on the row's side of it. */
 static struct rows luma_rows(const struct area *a, int y, ptrdiff_t stride)
 {
-    switch (a->line ? a->side - y : 0) {
+    switch (a->line ? a->rows - y : 0) {
     case 5:
     case 4:
         return (struct rows){0, 0, 0, 10};
@@ -282,7 +289,7 @@ void NAME(luma)(const struct input *in, const struct plane *luma, uint16_t *rest
     for (int j = 0; j < 12; j++)
         no_clip[j] = 1 << in->bit_depth;
     for (int address = 0; address < ctb_count(in); address++) {
-        struct area a = area_of(in, address, 0);
+        struct area a = luma_area(in, address);
         struct filters filters;
         if (in->ctb_params[8 * address]) {
             luma_filters(in, address, no_clip, &filters);
@@ -297,7 +304,7 @@ void NAME(luma)(const struct input *in, const struct plane *luma, uint16_t *rest
 
 static struct rows chroma_rows(const struct area *a, int y, ptrdiff_t stride)
 {
-    switch (a->line ? a->side - y : 0) {
+    switch (a->line ? a->rows - y : 0) {
     case 3:
     case 2:
         return (struct rows){0, 0, 0, 10};
@@ -340,8 +347,10 @@ static inline void chroma_four(const uint16_t *restrict p, const struct rows *at
         out[i] = clamp(0, max, p[i] + (sum[i] >> at->shift));
 }
 
-/* A CTB, block by block; blocks fit, since its sides are multiples of 4 also where the picture cuts it. */
-static void chroma_ctb(const struct area *a, const struct plane *chroma, const int16_t *f, int max, uint16_t *restrict output, int width)
+/* A CTB, block by block; blocks fit, since its sides are multiples of 4 also where the picture cuts it. Not inlined, so that what finds the
+ * CTB takes no registers from the loops. */
+static __attribute__((noinline)) void chroma_ctb(const struct area *a, const struct plane *chroma, const int16_t *f, int max,
+                                                 uint16_t *restrict output, int width)
 {
     int count = BLOCK ? BLOCK : a->width;
     for (int y = 0; y < a->height; y += LINES) {
@@ -361,9 +370,9 @@ static void chroma_ctb(const struct area *a, const struct plane *chroma, const i
 
 void NAME(chroma)(const struct input *in, int32_t component, const struct plane *chroma, uint16_t *restrict output)
 {
-    int width = in->width / 2, max = (1 << in->bit_depth) - 1;
+    int width = in->width / in->sub_width, max = (1 << in->bit_depth) - 1;
     for (int address = 0; address < ctb_count(in); address++) {
-        struct area a = area_of(in, address, 1);
+        struct area a = chroma_area(in, address);
         const uint8_t *params = in->ctb_params + 8 * address;
         if (params[1 + component])
             chroma_ctb(&a, chroma, in->bank + APS * slice_of(in, address)[8] + 600 + 12 * params[4 + component], max, output, width);
@@ -374,28 +383,33 @@ void NAME(chroma)(const struct input *in, int32_t component, const struct plane 
 
 /* ---- cross-component */
 
-/* y is a chroma row, so the luma row 2 y is even. */
-static struct rows cross_rows(const struct area *a, int y, ptrdiff_t stride)
+/* Inlined with constants for the ratio (across and down: luma samples a chroma sample), so that each format has loops of its own. */
+#define FOR_RATIO static inline __attribute__((always_inline))
+
+/* y is a chroma row; the luma row at it decides. */
+static struct rows cross_rows(const struct area *a, int y, int down, ptrdiff_t stride)
 {
-    switch (a->line ? 2 * (a->side - y) : 0) {
+    switch (a->line ? down * (a->rows - y) : 0) {
+    case 5:
     case 4:
         return (struct rows){0, 0, 0, 7};
     case 6:
+    case 3:
         return (struct rows){stride, stride, 0, 7};
     default:
         return (struct rows){stride, 2 * stride, 0, 7};
     }
 }
 
-/* A row of a CTB's chroma, q, from luma, p, which has two columns for each of chroma's. */
-static inline void cross_row(const uint16_t *restrict p, const uint16_t *restrict q, int count, struct rows at, const int16_t *restrict f,
-                      int bit_depth, uint16_t *restrict out)
+/* A row of a CTB's chroma, q, from luma, p. */
+FOR_RATIO void cross_row(const uint16_t *restrict p, const uint16_t *restrict q, int count, int across, struct rows at,
+                         const int16_t *restrict f, int bit_depth, uint16_t *restrict out)
 {
     const uint16_t *restrict above = p - at.one, *restrict below = p + at.one, *restrict second = p + at.two;
     int f0 = f[0], f1 = f[1], f2 = f[2], f3 = f[3], f4 = f[4], f5 = f[5], f6 = f[6];
     int half = 1 << (bit_depth - 1), max = (1 << bit_depth) - 1;
     for (int k = 0; k < count; k++) {
-        int x = 2 * k, m = p[x];
+        int x = across * k, m = p[x];
         int sum = f0 * (above[x] - m) + f1 * (p[x - 1] - m) + f2 * (p[x + 1] - m) + f3 * (below[x - 1] - m) + f4 * (below[x] - m) +
                   f5 * (below[x + 1] - m) + f6 * (second[x] - m);
         out[k] = clamp(0, max, q[k] + clamp(-half, half - 1, (sum + 64) >> 7));
@@ -403,45 +417,61 @@ static inline void cross_row(const uint16_t *restrict p, const uint16_t *restric
 }
 
 /* Adds a tap to the sums of four samples: luma at `away` from each sample's own. */
-static inline void add_cross_tap(int sum[4], const uint16_t *restrict p, ptrdiff_t away, int coeff)
+FOR_RATIO void add_cross_tap(int sum[4], const uint16_t *restrict p, int across, ptrdiff_t away, int coeff)
 {
     for (int i = 0; i < 4; i++)
-        sum[i] += coeff * (p[2 * i + away] - p[2 * i]);
+        sum[i] += coeff * (p[across * i + away] - p[across * i]);
 }
 
 /* Four samples of a block's row. */
-static inline void cross_four(const uint16_t *restrict p, const uint16_t *restrict q, const struct rows *at, const int16_t *restrict f,
-                              int bit_depth, uint16_t *restrict out)
+FOR_RATIO void cross_four(const uint16_t *restrict p, const uint16_t *restrict q, int across, const struct rows *at,
+                          const int16_t *restrict f, int bit_depth, uint16_t *restrict out)
 {
     int half = 1 << (bit_depth - 1), max = (1 << bit_depth) - 1;
     int sum[4] = {64, 64, 64, 64};
-    add_cross_tap(sum, p, -at->one, f[0]);
-    add_cross_tap(sum, p, -1, f[1]);
-    add_cross_tap(sum, p, 1, f[2]);
-    add_cross_tap(sum, p, at->one - 1, f[3]);
-    add_cross_tap(sum, p, at->one, f[4]);
-    add_cross_tap(sum, p, at->one + 1, f[5]);
-    add_cross_tap(sum, p, at->two, f[6]);
+    add_cross_tap(sum, p, across, -at->one, f[0]);
+    add_cross_tap(sum, p, across, -1, f[1]);
+    add_cross_tap(sum, p, across, 1, f[2]);
+    add_cross_tap(sum, p, across, at->one - 1, f[3]);
+    add_cross_tap(sum, p, across, at->one, f[4]);
+    add_cross_tap(sum, p, across, at->one + 1, f[5]);
+    add_cross_tap(sum, p, across, at->two, f[6]);
     for (int i = 0; i < 4; i++)
         out[i] = clamp(0, max, q[i] + clamp(-half, half - 1, sum[i] >> 7));
 }
 
-static void cross_ctb(const struct area *a, const struct plane *luma, const struct plane *chroma, const int16_t *f, int bit_depth,
-                      uint16_t *restrict output, int width)
+FOR_RATIO void cross_ctb(const struct area *a, int across, int down, const struct plane *luma, const struct plane *chroma, const int16_t *f,
+                         int bit_depth, uint16_t *restrict output, int width)
 {
     int count = BLOCK ? BLOCK : a->width;
     for (int y = 0; y < a->height; y += LINES) {
         struct rows at[LINES];
         for (int r = 0; r < LINES; r++)
-            at[r] = cross_rows(a, y + r, luma->stride);
-        const uint16_t *p = sample_at(luma, 2 * a->x, 2 * (a->y + y)), *q = sample_at(chroma, a->x, a->y + y);
+            at[r] = cross_rows(a, y + r, down, luma->stride);
+        const uint16_t *p = sample_at(luma, across * a->x, down * (a->y + y)), *q = sample_at(chroma, a->x, a->y + y);
         uint16_t *out = output + (ptrdiff_t)(a->y + y) * width + a->x;
         for (int x = 0; x < a->width; x += count)
             for (int r = 0; r < LINES; r++)
                 if (BLOCK)
-                    cross_four(p + 2 * r * luma->stride + 2 * x, q + r * chroma->stride + x, &at[r], f, bit_depth, out + r * width + x);
+                    cross_four(p + down * r * luma->stride + across * x, q + r * chroma->stride + x, across, &at[r], f, bit_depth,
+                               out + r * width + x);
                 else
-                    cross_row(p, q, count, at[r], f, bit_depth, out);
+                    cross_row(p, q, count, across, at[r], f, bit_depth, out);
+    }
+}
+
+FOR_RATIO void cross_plane(const struct input *in, int across, int down, int component, const struct plane *luma, const struct plane *chroma,
+                           uint16_t *restrict output)
+{
+    int width = in->width / across;
+    for (int address = 0; address < ctb_count(in); address++) {
+        struct area a = chroma_area(in, address);
+        int index = in->ctb_params[8 * address + 6 + component];
+        const int16_t *f = in->bank + APS * slice_of(in, address)[9 + component] + 696 + 28 * component + 7 * (index - 1);
+        if (index)
+            cross_ctb(&a, across, down, luma, chroma, f, in->bit_depth, output, width);
+        else
+            copy_area(&a, chroma, output, width);
     }
 }
 
@@ -449,14 +479,10 @@ static void cross_ctb(const struct area *a, const struct plane *luma, const stru
 void NAME(cross_component)(const struct input *in, int32_t component, const struct plane *luma, const struct plane *chroma,
                            uint16_t *restrict output)
 {
-    int width = in->width / 2;
-    for (int address = 0; address < ctb_count(in); address++) {
-        struct area a = area_of(in, address, 1);
-        int index = in->ctb_params[8 * address + 6 + component];
-        const int16_t *f = in->bank + APS * slice_of(in, address)[9 + component] + 696 + 28 * component + 7 * (index - 1);
-        if (index)
-            cross_ctb(&a, luma, chroma, f, in->bit_depth, output, width);
-        else
-            copy_area(&a, chroma, output, width);
-    }
+    if (in->sub_width == 1)
+        cross_plane(in, 1, 1, component, luma, chroma, output);
+    else if (in->sub_height == 1)
+        cross_plane(in, 2, 1, component, luma, chroma, output);
+    else
+        cross_plane(in, 2, 2, component, luma, chroma, output);
 }

@@ -10,6 +10,8 @@ struct Input {
     height: i32,
     ctb_log2: i32,
     bit_depth: i32,
+    sub_width: i32,
+    sub_height: i32,
     slice_map: *const u8,
     slice_params: *const u8,
     ctb_params: *const u8,
@@ -98,11 +100,14 @@ impl Build {
 }
 
 fn input(case: &Case) -> Input {
+    let (across, down) = case.format.ratio();
     Input {
         width: case.width as i32,
         height: case.height as i32,
         ctb_log2: case.ctb_log2.into(),
         bit_depth: case.bit_depth.into(),
+        sub_width: across as i32,
+        sub_height: down as i32,
         slice_map: case.slice_map.as_ptr(),
         slice_params: case.slice_params.as_ptr(),
         ctb_params: case.ctb_params.as_ptr(),

@@ -1,5 +1,6 @@
 //! What one measurement is made on: a picture, its tables and its planes, made from a seed.
 use crate::drawing::drawing;
+use crate::format::Format;
 use crate::padded::Padded;
 use crate::random::Random;
 use raspbegonia::{FixedTables, Parameters, Picture};
@@ -10,6 +11,7 @@ pub struct Case {
     pub height: usize,
     pub ctb_log2: u8,
     pub bit_depth: u8,
+    pub format: Format,
     pub luma: Vec<u16>,
     pub chroma: Vec<u16>,
     pub padded_luma: Padded,
@@ -38,11 +40,12 @@ pub enum Ctbs {
 }
 
 impl Case {
-    pub fn new(width: usize, height: usize, ctb_log2: u8, bit_depth: u8, ctbs: Ctbs) -> Case {
+    pub fn new(width: usize, height: usize, ctb_log2: u8, bit_depth: u8, format: Format, ctbs: Ctbs) -> Case {
         // The same every time for the same sizes.
         let mut random = Random(((width * 4099 + height) * 16 + usize::from(ctb_log2)) as u64 * 16 + u64::from(bit_depth));
         let luma = drawing(width, height, bit_depth, &mut random);
-        let chroma = drawing(width / 2, height / 2, bit_depth, &mut random);
+        let (chroma_width, chroma_height) = (width / format.ratio().0, height / format.ratio().1);
+        let chroma = drawing(chroma_width, chroma_height, bit_depth, &mut random);
         let (columns, rows) = (width.div_ceil(1 << ctb_log2), height.div_ceil(1 << ctb_log2));
         let count = columns * rows;
         let mut bad_luma = luma.clone();
@@ -55,8 +58,9 @@ impl Case {
             height,
             ctb_log2,
             bit_depth,
+            format,
             padded_luma: Padded::new(&luma, width, height),
-            padded_chroma: Padded::new(&chroma, width / 2, height / 2),
+            padded_chroma: Padded::new(&chroma, chroma_width, chroma_height),
             luma,
             chroma,
             bad_luma,
@@ -74,7 +78,7 @@ impl Case {
         }
     }
 
-    /// For messages and tables.
+    /// For messages and tables; the operation's name has the format, where it depends on it.
     pub fn name(&self) -> String {
         format!(
             "{} by {}, {} bits, CTB {}",
@@ -91,7 +95,7 @@ impl Case {
             height: self.height as u32,
             ctb_log2: self.ctb_log2,
             bit_depth: self.bit_depth,
-            chroma_format: 1,
+            chroma_format: self.format.number(),
             slice_count: 1,
             across_tiles: true,
             across_slices: true,

@@ -1,5 +1,6 @@
 //! Small pictures through all sides, without timing: are the outputs equal?
 use crate::case::{Case, Ctbs};
+use crate::format::Format;
 use crate::operations::{Operation, Output, SIDES};
 use crate::timing::compare;
 
@@ -16,19 +17,13 @@ const OPERATIONS: [Operation; 6] = [
 const SIZES: [(usize, usize); 3] = [(200, 136), (256, 128), (8, 8)];
 
 /// How many comparisons were made, or what is wrong.
-pub fn check() -> Result<usize, String> {
+pub fn check(formats: &[Format]) -> Result<usize, String> {
     let (mut count, mut seen) = (0, [false; 128]);
-    for (width, height) in SIZES {
-        for ctb_log2 in 5..=7 {
-            for bit_depth in [8, 10, 12] {
-                for ctbs in [Ctbs::All, Ctbs::Some] {
-                    let case = Case::new(width, height, ctb_log2, bit_depth, ctbs);
-                    for operation in OPERATIONS {
-                        check_one(operation, &case, &mut seen).map_err(|wrong| format!("{}: {wrong}", case.name()))?;
-                        count += 1;
-                    }
-                }
-            }
+    for case in cases(formats) {
+        // Classes and luma are the same in every format: the first one will do.
+        for operation in OPERATIONS.into_iter().filter(|each| case.format == formats[0] || each.has_format()) {
+            check_one(operation, &case, &mut seen).map_err(|wrong| format!("{}: {wrong}", case.name()))?;
+            count += 1;
         }
     }
     // Equal outputs would mean little of pictures that reach few classes.
@@ -39,6 +34,18 @@ pub fn check() -> Result<usize, String> {
     } else {
         Err("the pictures do not reach every class and every transpose".into())
     }
+}
+
+/// Every size at every CTB size, some bit depths and every format that is asked for, with all CTBs filtered and with some.
+fn cases(formats: &[Format]) -> impl Iterator<Item = Case> + '_ {
+    let sizes = SIZES.into_iter().flat_map(|size| (5..=7).map(move |ctb_log2| (size, ctb_log2)));
+    let depths = sizes.flat_map(|(size, ctb_log2)| [8, 10, 12].map(|bit_depth| (size, ctb_log2, bit_depth)));
+    depths.flat_map(move |((width, height), ctb_log2, bit_depth)| {
+        let make = move |format, ctbs| Case::new(width, height, ctb_log2, bit_depth, format, ctbs);
+        formats
+            .iter()
+            .flat_map(move |&format| [Ctbs::All, Ctbs::Some].map(|ctbs| make(format, ctbs)))
+    })
 }
 
 fn check_one(operation: Operation, case: &Case, seen: &mut [bool; 128]) -> Result<(), String> {

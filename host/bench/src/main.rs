@@ -3,6 +3,7 @@ mod baseline;
 mod case;
 mod check;
 mod drawing;
+mod format;
 mod operations;
 mod options;
 mod padded;
@@ -29,7 +30,7 @@ fn main() -> ExitCode {
             print!("{}", options::HELP);
             Ok(())
         }
-        Ok(Command::Check) => check::check().map(|count| println!("{count} comparisons with the C: all outputs equal")),
+        Ok(Command::Check(formats)) => check::check(&formats).map(|count| println!("{count} comparisons with the C: all outputs equal")),
         Ok(Command::Measure(options)) => measure(&options).map(|lines| report::print(&lines, options.calls)),
         Err(message) => {
             eprintln!("bench: {message}\n\n{}", options::HELP);
@@ -49,17 +50,23 @@ fn measure(options: &Options) -> Result<Vec<Line>, String> {
     let mut lines = Vec::new();
     for &(width, height) in &options.sizes {
         for &bit_depth in &options.depths {
-            let case = Case::new(width, height, options.ctb_log2, bit_depth, Ctbs::All);
-            for operation in MEASURED {
-                eprintln!("measuring {}: {}", case.name(), operation.name());
-                let times = timing::measure(operation, &case, options.calls).map_err(|wrong| format!("{}: {wrong}", case.name()))?;
-                lines.push(Line {
-                    picture: case.name(),
-                    operation,
-                    times,
-                });
+            for (nth, &format) in options.formats.iter().enumerate() {
+                let case = Case::new(width, height, options.ctb_log2, bit_depth, format, Ctbs::All);
+                for operation in MEASURED.into_iter().filter(|operation| nth == 0 || operation.has_format()) {
+                    lines.push(line(operation, &case, options.calls)?);
+                }
             }
         }
     }
     Ok(lines)
+}
+
+fn line(operation: Operation, case: &Case, calls: u32) -> Result<Line, String> {
+    eprintln!("measuring {}: {}", case.name(), operation.name_in(case.format));
+    Ok(Line {
+        picture: case.name(),
+        format: case.format,
+        operation,
+        times: timing::measure(operation, case, calls).map_err(|wrong| format!("{}: {wrong}", case.name()))?,
+    })
 }

@@ -1,6 +1,7 @@
 //! The four operations that are measured, and who does them.
 use crate::baseline::{NATIVE, O3, ROWS};
 use crate::case::Case;
+use crate::format::Format;
 use raspbegonia::Fault;
 
 /// The component, where there is one, is 0 (Cb) or 1 (Cr).
@@ -42,6 +43,20 @@ impl Operation {
         }
     }
 
+    /// Classes and luma are the same in every format.
+    pub fn has_format(self) -> bool {
+        matches!(self, Operation::Chroma(_) | Operation::CrossComponent(_))
+    }
+
+    /// The name, with the chroma format where there is one.
+    pub fn name_in(self, format: Format) -> String {
+        if self.has_format() {
+            format!("{}, {}", self.name(), format.name())
+        } else {
+            self.name().into()
+        }
+    }
+
     /// How many samples the plane has that is filtered or classified.
     pub fn samples(self, case: &Case) -> usize {
         match self {
@@ -78,10 +93,10 @@ impl Operation {
             Err(fault) if fault == self.last_fault() => Ok(()),
             Err(fault) => Err(format!(
                 "{}: the spoilt input was rejected with {fault}, not with {}",
-                self.name(),
+                self.name_in(case.format),
                 self.last_fault()
             )),
-            Ok(()) => Err(format!("{}: the spoilt input was accepted", self.name())),
+            Ok(()) => Err(format!("{}: the spoilt input was accepted", self.name_in(case.format))),
         }
     }
 
@@ -110,7 +125,7 @@ impl Side {
             Side::Library => {
                 return operation
                     .library(case, false, output)
-                    .map_err(|fault| format!("{}: the library rejected it: {fault}", operation.name()))
+                    .map_err(|fault| format!("{}: the library rejected it: {fault}", operation.name_in(case.format)))
             }
             Side::C => O3.run(case, output),
             Side::CRows => ROWS.run(case, output),

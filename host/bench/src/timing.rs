@@ -45,7 +45,7 @@ fn nanoseconds(other_data: &[u8], call: impl FnOnce() -> Result<(), String>) -> 
 pub fn compare(outputs: &[Output; 4], case: &Case) -> Result<(), String> {
     for (side, output) in SIDES.into_iter().zip(outputs).skip(1) {
         if let Some((place, library, c)) = outputs[0].first_difference(output) {
-            let name = output.operation.name();
+            let name = output.operation.name_in(case.format);
             let (column, row) = (place % columns(output.operation, case), place / columns(output.operation, case));
             return Err(format!(
                 "outputs differ: {name} at column {column}, row {row}: {} has {library}, {} has {c}",
@@ -62,6 +62,6 @@ fn columns(operation: Operation, case: &Case) -> usize {
     match operation {
         Operation::Classes => case.width / 4,
         Operation::Luma => case.width,
-        Operation::Chroma(_) | Operation::CrossComponent(_) => case.width / 2,
+        Operation::Chroma(_) | Operation::CrossComponent(_) => case.width / case.format.ratio().0,
     }
 }
