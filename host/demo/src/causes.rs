@@ -1,5 +1,5 @@
-//! What closes the sides of the picture's samples, and where the difference picture shows it hardest.
-use crate::planes::{Change, HEIGHT, WIDTH};
+//! What closes the sides of the picture's samples.
+use crate::planes::{HEIGHT, WIDTH};
 use raspbegonia::{ClipCause, ClipCauses, Fault, Picture};
 
 /// The answer for every luma sample, row by row.
@@ -12,13 +12,6 @@ pub struct Run {
     pub last: usize,
     pub upper: ClipCause,
     pub lower: ClipCause,
-}
-
-/// An edge in the difference picture: `row` is the row below it. Changes are means over the rows beside the edge and the rows next to those.
-pub struct HardRow {
-    pub row: usize,
-    pub beside: f64,
-    pub around: f64,
 }
 
 impl Causes {
@@ -53,43 +46,9 @@ impl Causes {
     }
 }
 
-/// The mean change of a row.
-fn change(before: &[u16], after: &[u16], row: usize) -> f64 {
-    let place = row * WIDTH..(row + 1) * WIDTH;
-    Change::between(&before[place.clone()], &after[place]).mean()
-}
-
-/// The row, of those that a clip position can lie above, at which the change falls most: what lies beside the edge was changed less than what
-/// lies next to it, so the difference picture has a hard stripe there.
-pub fn hardest(before: &[u16], after: &[u16]) -> HardRow {
-    let mean = |rows: [usize; 2]| rows.map(|row| change(before, after, row)).iter().sum::<f64>() / 2.0;
-    let rows = (4..HEIGHT - 3).step_by(4).map(|row| HardRow {
-        row,
-        beside: mean([row - 1, row]),
-        around: (mean([row - 3, row - 2]) + mean([row + 1, row + 2])) / 2.0,
-    });
-    let fall = |hard: &HardRow| hard.around - hard.beside;
-    rows.max_by(|a, b| fall(a).total_cmp(&fall(b)))
-        .expect("the picture has more than four rows")
-}
-
 #[cfg(test)]
 mod tests {
     use super::*;
-
-    #[test]
-    fn the_row_with_the_deepest_stripe_is_hardest() {
-        let before = vec![0; WIDTH * HEIGHT];
-        let after: Vec<u16> = (0..WIDTH * HEIGHT)
-            .map(|k| match k / WIDTH {
-                99 | 100 => 1,
-                199 | 200 => 4,
-                _ => 8,
-            })
-            .collect();
-        let hard = hardest(&before, &after);
-        assert_eq!((hard.row, hard.beside, hard.around), (100, 1.0, 8.0));
-    }
 
     #[test]
     fn columns_are_joined_where_both_rows_have_the_same() {

@@ -1,8 +1,9 @@
 //! The CTBs' parameters, found as an encoder finds them: every filter is tried on every CTB, and each CTB takes the one that brings it
 //! nearest to the clean picture, or none.
 use crate::filter::{Filter, Setup, CTB_NUMBERS};
+use crate::format::Format;
 use crate::layout::{ctb_at, Layout, CTBS};
-use crate::planes::{ratio, size, Planes, CB, CR, Y};
+use crate::planes::{Planes, CB, CR, Y};
 use crate::tables::SLICE_PARAMS;
 use raspbegonia::Fault;
 
@@ -16,11 +17,11 @@ struct Stage {
 }
 
 /// The squared error of each CTB in a component.
-fn ctb_errors(component: usize, plane: &[u16], clean: &[u16]) -> Vec<u64> {
-    let (width, step) = (size(component).0, ratio(component));
+fn ctb_errors(format: Format, component: usize, plane: &[u16], clean: &[u16]) -> Vec<u64> {
     let mut errors = vec![0; CTBS];
-    for (k, (&a, &b)) in plane.iter().zip(clean).enumerate() {
-        errors[ctb_at(k % width * step, k / width * step)] += u64::from(a.abs_diff(b)).pow(2);
+    for (place, (&a, &b)) in plane.iter().zip(clean).enumerate() {
+        let (x, y) = format.luma_position(component, place);
+        errors[ctb_at(x, y)] += u64::from(a.abs_diff(b)).pow(2);
     }
     errors
 }
@@ -41,12 +42,13 @@ fn switch_on(stage: &Stage, ctb_params: &mut [u8], ctb: usize, candidate: u8) {
 
 /// Tries a stage's candidates and settles its part of the parameters.
 fn settle(setup: Setup, stage: &Stage, luma: &[u16], input: &[u16], clean: &[u16], ctb_params: &mut [u8]) -> Result<(), Fault> {
-    let mut least = ctb_errors(stage.component, input, clean);
+    let errors_of = |plane: &[u16]| ctb_errors(setup.format, stage.component, plane, clean);
+    let mut least = errors_of(input);
     for candidate in stage.candidates.clone() {
         let usable: Vec<usize> = (0..CTBS).filter(|&ctb| allowed(setup.layout, stage, ctb, candidate)).collect();
         let mut trial = vec![0; CTBS * CTB_NUMBERS];
         usable.iter().for_each(|&ctb| switch_on(stage, &mut trial, ctb, candidate));
-        let errors = ctb_errors(stage.component, &setup.filter(stage.filter, &trial, luma, input)?, clean);
+        let errors = errors_of(&setup.filter(stage.filter, &trial, luma, input)?);
         for ctb in usable {
             if errors[ctb] < least[ctb] {
                 least[ctb] = errors[ctb];

@@ -1,6 +1,7 @@
 //! What coding does to a picture: the transform of each 8 by 8 block, with its coefficients rounded to coarse steps. It leaves steps
 //! between blocks, ripples along edges and grain, as a decoder's picture has them before the loop filter.
-use crate::planes::{size, Planes, MAXIMUM};
+use crate::format::Format;
+use crate::planes::{Planes, MAXIMUM};
 use crate::scene::hash;
 
 /// The cosine transform of eight samples in integers, as video standards have it. Each row's squares add up to about 2^15.
@@ -63,8 +64,8 @@ fn code_plane(plane: &[u16], width: usize, step: i64) -> Vec<u16> {
 }
 
 /// The picture after coding.
-pub fn degraded(clean: &Planes) -> Planes {
-    [0, 1, 2].map(|component| code_plane(&clean[component], size(component).0, STEPS[component]))
+pub fn degraded(clean: &Planes, format: Format) -> Planes {
+    [0, 1, 2].map(|component| code_plane(&clean[component], format.size(component).0, STEPS[component]))
 }
 
 #[cfg(test)]

@@ -1,16 +1,16 @@
 //! Pictures for people, from planes and tables.
 use crate::causes::Causes;
+use crate::format::Format;
 use crate::layout::{ctb_at, tile_of, Layout, CTB, VIRTUAL_COLUMNS, VIRTUAL_ROWS};
-use crate::planes::{ratio, size, Planes, CB, CR, HEIGHT, WIDTH, Y};
+use crate::planes::{Planes, CB, CR, HEIGHT, WIDTH, Y};
 use crate::png::Image;
 use crate::text;
 use raspbegonia::{ClipCause, ClipCauses};
 
 /// How often a difference is amplified in `difference.png`.
 pub const AMPLIFICATION: i32 = 8;
-/// The part of the picture that `closeup.png` shows, and how often it is enlarged.
-pub const CLOSEUP: (usize, usize, usize, usize) = (308, 132, 80, 80);
-pub const CLOSEUP_ZOOM: usize = 5;
+/// How often chroma is amplified in `chroma.png`.
+pub const CHROMA_AMPLIFICATION: i32 = 3;
 /// How often `classes.png`, `layout.png` and `causes.png` are enlarged.
 pub const MAP_ZOOM: usize = 2;
 
@@ -23,34 +23,41 @@ fn rgb(y: u16, cb: u16, cr: u16) -> [u8; 3] {
     channels.map(|v| ((v + (1 << 15)) >> 16).clamp(0, 255) as u8)
 }
 
-/// Planes as a colour picture; each chroma sample serves four luma samples.
-pub fn picture(planes: &Planes) -> Image {
-    let at = |component: usize, x: usize, y: usize| planes[component][y / ratio(component) * size(component).0 + x / ratio(component)];
-    Image::new(WIDTH, HEIGHT, |x, y| rgb(at(Y, x, y), at(CB, x, y), at(CR, x, y)))
+/// The middle of video range: (64 + 940) / 2 in luma, 512 in chroma.
+const MIDDLES: [i32; 3] = [502, 512, 512];
+
+/// The level that lies so many times a distance from the middle.
+fn amplified(component: usize, times: i32, distance: i32) -> u16 {
+    (MIDDLES[component] + times * distance).clamp(0, 1023) as u16
+}
+
+/// Planes as a colour picture; a chroma sample serves all luma samples that it spans.
+pub fn picture(planes: &Planes, format: Format) -> Image {
+    Image::new(WIDTH, HEIGHT, |x, y| {
+        let [y, cb, cr] = [Y, CB, CR].map(|component| planes[component][format.place(component, x, y)]);
+        rgb(y, cb, cr)
+    })
 }
 
 /// What the filters added, amplified: mid grey where nothing changed, brighter where luma rose, tinged where chroma moved.
-pub fn difference(before: &Planes, after: &Planes) -> Image {
-    let amplified = |middle: i32, a: u16, b: u16| (middle + AMPLIFICATION * (i32::from(a) - i32::from(b))).clamp(0, 1023) as u16;
-    let plane = |component: usize, middle: i32| {
+pub fn difference(before: &Planes, after: &Planes, format: Format) -> Image {
+    let plane = |component: usize| {
         let pairs = after[component].iter().zip(&before[component]);
-        pairs.map(|(&a, &b)| amplified(middle, a, b)).collect()
+        let change = pairs.map(|(&a, &b)| i32::from(a) - i32::from(b));
+        change.map(|change| amplified(component, AMPLIFICATION, change)).collect()
     };
-    // Video range has its middle at (64 + 940) / 2 in luma and at 512 in chroma.
-    picture(&[plane(Y, 502), plane(CB, 512), plane(CR, 512)])
+    picture(&[Y, CB, CR].map(plane), format)
 }
 
-/// One part of several pictures of one size, enlarged and side by side.
-pub fn closeup(images: &[&Image]) -> Image {
-    const GAP: usize = 8;
-    let (left, top, width, height) = CLOSEUP;
-    let panel = width * CLOSEUP_ZOOM + GAP;
-    Image::new(panel * images.len() - GAP, height * CLOSEUP_ZOOM, |x, y| {
-        if x % panel >= panel - GAP {
-            return [255; 3];
-        }
-        images[x / panel].at(left + x % panel / CLOSEUP_ZOOM, top + y / CLOSEUP_ZOOM)
-    })
+/// Chroma alone, amplified, with luma at mid grey.
+pub fn chroma(planes: &Planes, format: Format) -> Image {
+    let plane = |component: usize| {
+        let distances = planes[component].iter().map(|&v| i32::from(v) - MIDDLES[component]);
+        // No distance at all brings luma to the middle.
+        let times = if component == Y { 0 } else { CHROMA_AMPLIFICATION };
+        distances.map(|distance| amplified(component, times, distance)).collect()
+    };
+    picture(&[Y, CB, CR].map(plane), format)
 }
 
 /// The hue of each direction mark of a class: none, diagonal and strongly so, straight and strongly so.

@@ -1,4 +1,5 @@
 //! The operations of the library over the demo's picture.
+use crate::format::Format;
 use crate::layout::{Layout, CTBS};
 use crate::planes::{Planes, CB, CR, Y};
 use crate::tables::{Tables, SLICE_PARAMS};
@@ -27,11 +28,12 @@ pub struct Outputs {
 pub struct Setup<'a> {
     pub layout: &'a Layout,
     pub tables: &'a Tables,
+    pub format: Format,
 }
 
 impl<'a> Setup<'a> {
     pub fn picture(&self) -> Picture<'a> {
-        self.layout.picture()
+        self.layout.picture(self.format)
     }
 
     /// Runs one filter over all CTBs. `input` is the plane that it filters; the cross-component filter reads `luma` beside it.

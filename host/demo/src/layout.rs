@@ -1,5 +1,6 @@
 //! How the picture is divided. In a stream tiles, slices and subpictures nest; here each division has lines of its own, so that each is
 //! seen at work.
+use crate::format::Format;
 use crate::planes::{BIT_DEPTH, HEIGHT, WIDTH};
 use raspbegonia::Picture;
 
@@ -41,13 +42,13 @@ impl Layout {
     }
 
     /// The picture as every operation takes it, with filtering across tiles and across slices switched off.
-    pub fn picture(&self) -> Picture<'_> {
+    pub fn picture(&self, format: Format) -> Picture<'_> {
         Picture {
             width: WIDTH as u32,
             height: HEIGHT as u32,
             ctb_log2: CTB_LOG2,
             bit_depth: BIT_DEPTH,
-            chroma_format: 1,
+            chroma_format: format.number(),
             slice_count: SLICE_COUNT as u32,
             across_tiles: false,
             across_slices: false,

@@ -1,10 +1,14 @@
 //! Filters a built-in picture with every operation of the library, writes pictures of what happened, and prints what changed.
 mod causes;
 mod choose;
+mod closeup;
 mod coding;
 mod draw;
 mod filter;
+mod filtered;
+mod format;
 mod gallery;
+mod hard_rows;
 mod isolation;
 mod layout;
 mod planes;
@@ -15,7 +19,13 @@ mod scene;
 mod tables;
 mod text;
 
+use crate::filter::Setup;
+use crate::filtered::Filtered;
+use crate::format::Format;
+use crate::isolation::Rewriting;
 use crate::planes::Y;
+use crate::scene::Scene;
+use raspbegonia::Fault;
 use std::ffi::OsString;
 use std::io::{self, Write};
 use std::path::{Path, PathBuf};
@@ -24,8 +34,9 @@ use std::process::ExitCode;
 const HELP: &str = "\
 usage: demo [--out DIR]
 
-Filters a built-in picture with every operation of the adaptive loop filter, writes
-what it looked like before and after as PNG files, and prints what changed.
+Filters a built-in picture, in 4:2:0 and in 4:4:4, with every operation of the adaptive
+loop filter, writes what it looked like before and after as PNG files, and prints what
+changed.
 
   --out DIR   the folder for the pictures, made when missing (default: target/demo)
   --help      this text
@@ -58,10 +69,14 @@ fn command(mut arguments: impl Iterator<Item = OsString>) -> Result<Command, Str
 }
 
 /// Holds what was seen to what the library promises.
-fn check(rewritings: &[isolation::Rewriting], rejections: &[reject::Rejection]) -> Result<(), String> {
-    let broken = |r: &&isolation::Rewriting| (r.subpicture == ISOLATED && !r.isolated) || (r.isolated && r.inside.differ > 0);
+fn check(half: &Filtered, full: &Filtered, rewritings: &[Rewriting], rejections: &[reject::Rejection]) -> Result<(), String> {
+    if half.outputs.class_map != full.outputs.class_map || half.outputs.planes[Y] != full.outputs.planes[Y] {
+        return Err("classes or luma depend on the chroma format".into());
+    }
+    let broken = |r: &&Rewriting| (r.subpicture == ISOLATED && !r.isolated) || (r.isolated && r.inside.differ > 0);
     if let Some(r) = rewritings.iter().find(broken) {
-        return Err(format!("subpicture {} is not isolated as it should be", r.subpicture));
+        let format = r.format.name();
+        return Err(format!("subpicture {} is not isolated as it should be in {format}", r.subpicture));
     }
     match rejections.iter().find(|r| r.answer.is_ok() || !r.untouched) {
         Some(r) => Err(format!("{} was accepted, or its output changed", r.what)),
@@ -69,34 +84,44 @@ fn check(rewritings: &[isolation::Rewriting], rejections: &[reject::Rejection]) 
     }
 }
 
+/// What to say where an operation rejects what it should accept.
+fn rejected(setup: Setup, fault: Fault) -> String {
+    format!("an operation rejected its input in {}: {fault}", setup.format.name())
+}
+
+/// Filters the scene in one chroma format, and again with what lies outside each of two subpictures rewritten.
+fn filter_scene(setup: Setup, scene: &Scene) -> Result<(Filtered, [Rewriting; 2]), String> {
+    let rejected = |fault| rejected(setup, fault);
+    let filtered = Filtered::new(setup, scene).map_err(rejected)?;
+    let rewrite = |subpicture| isolation::rewrite_outside(setup, subpicture, &filtered).map_err(rejected);
+    let rewritings = [rewrite(ISOLATED)?, rewrite(OPEN)?];
+    Ok((filtered, rewritings))
+}
+
 /// The demo from scene to report.
 fn run(folder: &Path) -> Result<String, String> {
-    let (layout, tables) = (layout::Layout::new(), tables::Tables::new());
-    let setup = filter::Setup {
+    let (layout, tables, scene) = (layout::Layout::new(), tables::Tables::new(), Scene::new());
+    let [setup, full_setup] = [Format::Yuv420, Format::Yuv444].map(|format| Setup {
         layout: &layout,
         tables: &tables,
-    };
-    let clean = scene::clean();
-    let before = coding::degraded(&clean);
-    let rejected = |fault| format!("an operation rejected its input: {fault}");
-    let params = choose::ctb_params(setup, &before, &clean).map_err(rejected)?;
-    let outputs = setup.all(&params, &before).map_err(rejected)?;
-    let rewrite = |subpicture| isolation::rewrite_outside(setup, subpicture, &params, &before, &outputs).map_err(rejected);
-    let rewritings = [rewrite(ISOLATED)?, rewrite(OPEN)?];
-    let rejections = reject::attempts(setup, &params, &before[Y]);
-    check(&rewritings, &rejections)?;
-    let causes = causes::Causes::of(&setup.picture()).map_err(rejected)?;
-    let hard = causes::hardest(&before[Y], &outputs.planes[Y]);
-    let region = layout.subpicture_region(ISOLATED);
-    let pictures = gallery::pictures(&layout, &region, &causes, &clean, &before, &outputs);
+        format,
+    });
+    let (half, half_rewritings) = filter_scene(setup, &scene)?;
+    let (full, full_rewritings) = filter_scene(full_setup, &scene)?;
+    let rewritings = [half_rewritings, full_rewritings].concat();
+    let rejections = reject::attempts(setup, &half.ctb_params, &half.before[Y]);
+    check(&half, &full, &rewritings, &rejections)?;
+    let causes = causes::Causes::of(&setup.picture()).map_err(|fault| rejected(setup, fault))?;
+    let pictures = gallery::pictures(&layout, &layout.subpicture_region(ISOLATED), &causes, &half, &full);
     gallery::write(folder, &pictures)?;
+    let formats = [&half, &full];
     Ok([
-        report::picture(),
-        report::changes(&before, &outputs),
-        report::choices(&params),
-        report::classes(&outputs.class_map),
-        report::quality(&clean, &before, &outputs.planes),
-        report::hard_row(&hard, &causes),
+        report::picture(formats),
+        report::changes(formats),
+        report::choices(formats),
+        report::classes(&half.outputs.class_map),
+        report::quality(formats),
+        report::hard_rows(&hard_rows::all(formats), &causes),
         report::isolation(&rewritings),
         report::rejections(&rejections),
         report::files(&pictures),

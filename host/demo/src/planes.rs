@@ -1,4 +1,4 @@
-//! Pictures as the library takes them: 16-bit planes in 4:2:0, row by row from the top left.
+//! Pictures as the library takes them: 16-bit planes, row by row from the top left.
 
 pub const WIDTH: usize = 480;
 pub const HEIGHT: usize = 304;
@@ -14,20 +14,6 @@ pub const NAMES: [&str; 3] = ["Y", "Cb", "Cr"];
 
 /// Luma, Cb and Cr.
 pub type Planes = [Vec<u16>; 3];
-
-/// How many luma samples one sample of a component spans, in each direction.
-pub fn ratio(component: usize) -> usize {
-    if component == Y {
-        1
-    } else {
-        2
-    }
-}
-
-/// Width and height of a component's plane.
-pub fn size(component: usize) -> (usize, usize) {
-    (WIDTH / ratio(component), HEIGHT / ratio(component))
-}
 
 /// What differs between two planes of one size.
 #[derive(Clone, Copy, Debug, Default, PartialEq)]

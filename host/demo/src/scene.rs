@@ -2,7 +2,8 @@
 //! towards the dark water it breaks up into floes.
 //!
 //! Every number comes from integer hashes and from +, -, *, / and square root on f64, which give the same bits on every machine.
-use crate::planes::{size, Planes, CB, CR, HEIGHT, WIDTH, Y};
+use crate::format::Format;
+use crate::planes::{Planes, CB, CR, HEIGHT, WIDTH, Y};
 
 /// A colour of a point: luma, Cb and Cr, on the scale of ten bits.
 type Colour = [f64; 3];
@@ -155,23 +156,34 @@ fn colour(x: f64, y: f64) -> Colour {
     mix_colours(water(x, y), ice(x, y, shade), cover)
 }
 
-/// The scene as it is, before any coding: each luma sample is the mean of four points, each chroma sample the mean of those of four
-/// luma samples.
-pub fn clean() -> Planes {
-    let mut sums = [
-        vec![0.0; WIDTH * HEIGHT],
-        vec![0.0; WIDTH * HEIGHT / 4],
-        vec![0.0; WIDTH * HEIGHT / 4],
-    ];
-    for y in 0..2 * HEIGHT {
-        for x in 0..2 * WIDTH {
-            let point = colour((x as f64 + 0.5) / 2.0, (y as f64 + 0.5) / 2.0);
-            sums[Y][y / 2 * WIDTH + x / 2] += point[Y] / 4.0;
-            let chroma = y / 4 * size(CB).0 + x / 4;
-            sums[CB][chroma] += point[CB] / 16.0;
-            sums[CR][chroma] += point[CR] / 16.0;
+/// The scene as it is, before any coding: of each component the mean of the four points that a luma sample has.
+pub struct Scene([Vec<f64>; 3]);
+
+impl Scene {
+    pub fn new() -> Scene {
+        let mut means = [Y, CB, CR].map(|_| vec![0.0; WIDTH * HEIGHT]);
+        for y in 0..2 * HEIGHT {
+            for x in 0..2 * WIDTH {
+                let point = colour((x as f64 + 0.5) / 2.0, (y as f64 + 0.5) / 2.0);
+                for component in [Y, CB, CR] {
+                    means[component][y / 2 * WIDTH + x / 2] += point[component] / 4.0;
+                }
+            }
         }
+        Scene(means)
     }
-    // Video range: the levels that a picture in ten bits keeps to.
-    sums.map(|plane| plane.iter().map(|v| (v + 0.5).floor().clamp(64.0, 940.0) as u16).collect())
+
+    /// The scene in a chroma format: a chroma sample is the mean over the luma samples that it spans.
+    pub fn planes(&self, format: Format) -> Planes {
+        [Y, CB, CR].map(|component| {
+            let (width, height) = format.size(component);
+            let (across, down) = format.ratio(component);
+            let mut means = vec![0.0; width * height];
+            for (k, value) in self.0[component].iter().enumerate() {
+                means[format.place(component, k % WIDTH, k / WIDTH)] += value / (across * down) as f64;
+            }
+            // Video range: the levels that a picture in ten bits keeps to.
+            means.iter().map(|v| (v + 0.5).floor().clamp(64.0, 940.0) as u16).collect()
+        })
+    }
 }

@@ -9,9 +9,13 @@ const HEIGHT: usize = 9;
 type Glyph = [u8; HEIGHT];
 
 #[rustfmt::skip]
-const GLYPHS: [(char, Glyph); 19] = [
+const GLYPHS: [(char, Glyph); 23] = [
     (' ', [0, 0, 0, 0, 0, 0, 0, 0, 0]),
     ('-', [0, 0, 0, 0, 0b01110, 0, 0, 0, 0]),
+    ('0', [0b01110, 0b10001, 0b10011, 0b10101, 0b11001, 0b10001, 0b01110, 0, 0]),
+    ('2', [0b01110, 0b10001, 0b00001, 0b00110, 0b01000, 0b10000, 0b11111, 0, 0]),
+    ('4', [0b00010, 0b00110, 0b01010, 0b10010, 0b11111, 0b00010, 0b00010, 0, 0]),
+    (':', [0, 0, 0b00100, 0, 0, 0, 0b00100, 0, 0]),
     ('a', [0, 0, 0b01110, 0b00001, 0b01111, 0b10001, 0b01111, 0, 0]),
     ('b', [0b10000, 0b10000, 0b11110, 0b10001, 0b10001, 0b10001, 0b11110, 0, 0]),
     ('c', [0, 0, 0b01110, 0b10000, 0b10000, 0b10000, 0b01110, 0, 0]),
@@ -58,14 +62,29 @@ pub fn draw(image: &mut Image, (left, top): (usize, usize), zoom: usize, colour:
     }
 }
 
+/// Writes a name into a corner of a picture, white on a dark ground.
+pub fn label(image: &mut Image, (left, top): (usize, usize), text: &str) {
+    const ZOOM: usize = 2;
+    const MARGIN: usize = 4;
+    let (wide, high) = (width(text, ZOOM) + 2 * MARGIN, height(ZOOM) + 2 * MARGIN);
+    for (x, y) in (0..high).flat_map(|y| (0..wide).map(move |x| (x, y))) {
+        image.set(left + x, top + y, [0; 3]);
+    }
+    draw(image, (left + MARGIN, top + MARGIN), ZOOM, [255; 3], text);
+}
+
 #[cfg(test)]
 mod tests {
     use super::glyph;
+    use crate::closeup::STAGES;
+    use crate::format::Format;
     use raspbegonia::ClipCause;
 
     #[test]
-    fn every_cause_can_be_written() {
-        let missing = |cause: &ClipCause| cause.name().chars().any(|letter| glyph(letter).is_none());
-        assert_eq!(ClipCause::ALL.iter().find(|cause| missing(cause)), None);
+    fn every_name_can_be_written() {
+        let missing = |name: &&str| name.chars().any(|letter| glyph(letter).is_none());
+        let formats = [Format::Yuv420, Format::Yuv444].map(Format::name);
+        let mut names = ClipCause::ALL.map(ClipCause::name).into_iter().chain(formats).chain(STAGES);
+        assert_eq!(names.find(missing), None);
     }
 }
