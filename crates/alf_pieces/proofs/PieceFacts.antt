@@ -13,6 +13,7 @@ use Rattle.alf_spec.specs.Boundary.{clipPosition}
 use Rattle.alf_spec.specs.Padding.{isNone, lowest, limit, clamped, ctbEnd, pastCtb}
 use Rattle.alf_spec.proofs.Tests.{both, same-test}
 use Rattle.alf_spec.proofs.Axes.{Regular, ctb-of}
+use Rattle.alf_spec.proofs.LineCrossing.{inPlane}
 use Rattle.alf_spec.proofs.IsolatedRegions.Ratios.{Ratio, own-le, le-own, own-lt, lt-own, boundary}
 use Rattle.alf_spec.proofs.IsolatedRegions.Reach.{Reach}
 use Rattle.alf_spec.proofs.IsolatedRegions.ClipPositions.{bound, bound-even}
@@ -22,7 +23,7 @@ use Rattle.alf_pieces.specs.Pieces.{WalkLine, ctbLimit, pieceEnd, pieceA
 use Rattle.alf_pieces.specs.Copies.{held}
 use Rattle.alf_pieces.proofs.PieceEnds.{Span, bound-at, span, start4, end4, next-begins}
 use Rattle.alf_pieces.proofs.PieceClips.{tip, outermost, AtTip, cut, uncut, at-tip, open-bound, Meets, at-end, open-end, far-end, meets}
-use Rattle.alf_pieces.proofs.PieceReads.{own-is, own-sum, own-most, inside, reach-inside, clamped-same}
+use Rattle.alf_pieces.proofs.PieceReads.{own-is, own-sum, own-most, reach-inside, clamped-same}
 
 -- u lies past the piece on that side
 abbrev pub pastPiece : Side → Piece → ℕ → Bool
@@ -145,11 +146,11 @@ module _ (a : Axis) (ok : Regular a) (walk : WalkLine (a .line)) (ratio : Ratio 
     start-is : ctbStart a X ≡ q * a .ctb
     start-is = ap (λ (m : ℕ). m * a .ctb) place
 
-    inPlane : x < samples a
-    inPlane = omega (arith, h .high, n .high, n .inside)
+    below : x < samples a
+    below = omega (arith, h .high, n .high, n .inside)
 
-    met : (d : Side) → Meets d (tip d lo hi) X (lumaPosition a (inside a u)) (clipPosition a X side d) (outer-clip d)
-    met = meets a ok walk side q lo hi part X (low, high) (lumaPosition a (inside a u)) (reach-inside a x u inPlane (h .reach))
+    met : (d : Side) → Meets d (tip d lo hi) X (lumaPosition a (inPlane a u)) (clipPosition a X side d) (outer-clip d)
+    met = meets a ok walk side q lo hi part X (low, high) (lumaPosition a (inPlane a u)) (reach-inside a x u below (h .reach))
 
     reads : clamped a (clipPosition a X side) u ≡ held (p .lowest) (p .limit) u
     unfolding pieceAt
@@ -201,7 +202,7 @@ module _ (a : Axis) (ok : Regular a) (walk : WalkLine (a .line)) (ratio : Ratio 
         let start-place = ctb-of a q lo (part .from) (omega (arith, part .filled, part .upto)) in
         open-bound a ok walk side q lo hi part d (not-cut d t) (in-picture d t) ∙ bound-at a d q lo start-place ∙ sym (bound-at a d q X place)
 
-    no-clip : (d : Side) (o o′ : Option ℕ) → Meets d (tip d lo hi) X (lumaPosition a (inside a u)) o o′ → isNone o′ ≡ true → isNone o ≡ true
+    no-clip : (d : Side) (o o′ : Option ℕ) → Meets d (tip d lo hi) X (lumaPosition a (inPlane a u)) o o′ → isNone o′ ≡ true → isNone o ≡ true
     no-clip d _ _ at-end q = q
     no-clip d _ _ open-end q = refl
     no-clip d _ _ (far-end f) q = refl

@@ -9,6 +9,7 @@ use native.Mathlib.Omega.{arith}
 use Rattle.alf_spec.specs.Geometry.{Side, before, after, Axis, samples, lumaPosition}
 use Rattle.alf_spec.specs.Padding.{lowest, limit, clamped}
 use Rattle.alf_spec.proofs.Axes.{not-gt}
+use Rattle.alf_spec.proofs.LineCrossing.{inPlane}
 use Rattle.alf_spec.proofs.IsolatedRegions.Ratios.{Ratio, whole, half, own-le, own-lt}
 use Rattle.alf_spec.proofs.IsolatedRegions.Reach.{Reach}
 use Rattle.alf_pieces.specs.Copies.{held}
@@ -72,28 +73,24 @@ module _ (a : Axis) (ratio : Ratio (a .ratio)) (x u : ℕ) where
 
 -- ---- the plane's own samples x and u
 
--- the neighbour, clamped to the plane
-abbrev pub inside : Axis → ℕ → ℕ
-inside a u = min u (pred (samples a))
-
 module _ (a : Axis) (x u : ℕ) where
-  pub reach-inside : x < samples a → Reach (lumaPosition a x) (lumaPosition a u) → Reach (lumaPosition a x) (lumaPosition a (inside a u))
-  reach-inside inPlane r =
+  pub reach-inside : x < samples a → Reach (lumaPosition a x) (lumaPosition a u) → Reach (lumaPosition a x) (lumaPosition a (inPlane a u))
+  reach-inside low r =
       by-cases (decLe u (pred (samples a)))
-      (λ l. let e : inside a u ≡ u = omega arith in rw e r)
+      (λ l. let e : inPlane a u ≡ u = omega arith in rw e r)
       (λ l. reach-less (lumaPosition a x) (lumaPosition a u) _ (mul-le-mul-right (a .ratio) (omega arith)) (mul-le-mul-right (a .ratio) (omega arith)) r)
 
   -- the piece from s to hi, by the clip positions of its outermost samples
   pub clamped-same : Ratio (a .ratio) → (s hi : ℕ) (clip outer : Side → Option ℕ)
       → s ≤ x → lumaPosition a x < hi → hi % 2 ≡ 0 → lowest a (outer before) ≤ s → hi / a .ratio ≤ limit a (outer after) → limit a (outer after) ≤ samples a
-      → Meets before (lumaPosition a s) (lumaPosition a x) (lumaPosition a (inside a u)) (clip before) (outer before)
-      → Meets after hi (lumaPosition a x) (lumaPosition a (inside a u)) (clip after) (outer after)
+      → Meets before (lumaPosition a s) (lumaPosition a x) (lumaPosition a (inPlane a u)) (clip before) (outer before)
+      → Meets after hi (lumaPosition a x) (lumaPosition a (inPlane a u)) (clip after) (outer after)
       → clamped a clip u ≡ held (lowest a (outer before)) (limit a (outer after)) u
   clamped-same ratio s hi clip outer low high q l h k m m′ =
       let inPiece = own-lt (a .ratio) ratio hi x q high in
-      ap (min (pred (limit a (clip after)))) (low-same a ratio (lumaPosition a x) (inside a u) s (clip before) (outer before) m (mul-le-mul-right (a .ratio) low))
-      ∙ high-same a ratio (lumaPosition a x) (inside a u) hi (max (lowest a (outer before)) (inside a u)) (clip after) (outer after) m′ q high (omega arith)
-      (λ g. less (lowest a (outer before)) (inside a u) (hi / a .ratio) (omega arith) g)
+      ap (min (pred (limit a (clip after)))) (low-same a ratio (lumaPosition a x) (inPlane a u) s (clip before) (outer before) m (mul-le-mul-right (a .ratio) low))
+      ∙ high-same a ratio (lumaPosition a x) (inPlane a u) hi (max (lowest a (outer before)) (inPlane a u)) (clip after) (outer after) m′ q high (omega arith)
+      (λ g. less (lowest a (outer before)) (inPlane a u) (hi / a .ratio) (omega arith) g)
       ∙ held-same (samples a) (lowest a (outer before)) (limit a (outer after)) u (omega arith) k
     where
       less : (l v n : ℕ) → l < n → v < n → max l v < n

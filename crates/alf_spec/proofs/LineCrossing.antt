@@ -22,6 +22,7 @@ use Rattle.alf_spec.specs.Chroma.{chromaRows, chromaRowsAt, chromaRead}
 use Rattle.alf_spec.proofs.Tests.{both}
 use Rattle.alf_spec.proofs.Axes.{Regular, upper, parts}
 use Rattle.alf_spec.proofs.IsolatedRegions.Ratios.{Ratio, whole, half, LineFits, no-line, chroma-ratios, chroma-line, own-le, own-lt, lt-own}
+use Rattle.alf_spec.proofs.IsolatedRegions.Clamping.{low, kept}
 use Rattle.alf_spec.proofs.IsolatedRegions.ClipPositions.{Ends, stops, runs, Near, near-yes, Found, clip-found, bound8}
 
 -- ---- along one axis
@@ -125,15 +126,6 @@ module _ (a : Axis) (ok : Regular a) (ratio : Ratio (a .ratio)) (fits : LineFits
   ok0 : Regular (unlined a)
   ok0 = record { big = ok .big; ctb8 = ok .ctb8; size8 = ok .size8; virtual8 = ok .virtual8 }
 
-  -- they hold x
-  lowest-le : {N : Type 0} (b : Axis) (c : Option ℕ) → Ends (Found b X side before) N c → lowest a c ≤ x
-  lowest-le b _ (stops f) = own-le (a .ratio) _ x (f .stop .1)
-  lowest-le b _ (runs n) = omega arith
-
-  lt-limit : {N : Type 0} (b : Axis) (c : Option ℕ) → Ends (Found b X side after) N c → x < limit a c
-  lt-limit b _ (stops f) = own-lt (a .ratio) ratio _ x (f .stop .0) (f .stop .1)
-  lt-limit b _ (runs n) = inX
-
   -- at the line or below it, what is found above without the line lies at the line or above it
   above : {N : Type 0} (c : Option ℕ) → L ≤ X → Ends (Found (unlined a) X side before) N c → lowest a c ≤ v
   above _ h (stops f) = own-le (a .ratio) _ v (by _ (f .stop .1) (f .place))
@@ -173,7 +165,7 @@ module _ (a : Axis) (ok : Regular a) (ratio : Ratio (a .ratio)) (fits : LineFits
       by : Differ after X L (o after) (o0 after) → min (pred (limit a (o after))) w ≡ min (pred (limit a (o0 after))) w
       by (inl e) = rw e
       by (inr e) =
-          let l = lowest-le a (o before) (clip-found a ok X fits side before) in
+          let l = low a ok ratio fits side x p inX in
           let x0 : x < L / a .ratio = own-lt (a .ratio) ratio L x line-even (e .1 .0) in
           let v0 : v < L / a .ratio = own-lt (a .ratio) ratio L v line-even (un .down (e .1 .0)) in
           let w0 : w < L / a .ratio = omega arith in
@@ -188,12 +180,8 @@ module _ (a : Axis) (ok : Regular a) (ratio : Ratio (a .ratio)) (fits : LineFits
   abbrev t : ℕ
   t = clamped a o p
 
-  held : (lowest a (o before) ≤ t) × (t < limit a (o after))
-  held = omega (
-    arith,
-    lowest-le a (o before) (clip-found a ok X fits side before),
-    lt-limit a (o after) (clip-found a ok X fits side after),
-  )
+  held : (lowest a (o before) ≤ t) × (t < limit a (o after)) × (t < samples a)
+  held = kept a ok ratio fits side x p inX
 
   -- past the CTB there is no clip position with the line exactly where there is none without
   pub past-same : (d : Side) → (pastCtb a d x t && isNone (o d)) ≡ (pastCtb a d x t && isNone (o0 d))

@@ -59,14 +59,14 @@ module _ (a : Axis) (ok : Regular a) (ratio : Ratio (a .ratio)) (fits : LineFits
   lt-limit _ (stops f) = own-lt (a .ratio) ratio _ x (f .0) (f .1)
   lt-limit _ (runs n) = inX
 
-  low : lowest a (clip before) ≤ x
+  pub low : lowest a (clip before) ≤ x
   low = lowest-le (clip before) (clip-ends a ok X fits side before)
 
   high : x < limit a (clip after)
   high = lt-limit (clip after) (clip-ends a ok X fits side after)
 
   -- clamping keeps to the plane and to the clip positions
-  kept : (lowest a (clip before) ≤ u) × (u < limit a (clip after)) × (u < samples a)
+  pub kept : (lowest a (clip before) ≤ u) × (u < limit a (clip after)) × (u < samples a)
   kept = omega (arith, low, high)
 
   -- and brings the neighbour toward the sample, not past it
