@@ -1,7 +1,8 @@
 -- Bounds of what the direction test works out. Assumes nothing.
 use mathlib.Core.Path.{_≡_, refl}
-use mathlib.Core.Bool.{Bool, true, false, cond}
-use Prim.Native.Nat.{ℕ, _+_, _*_, _/_, _%_, _^_, _-_, _<_, min}
+use mathlib.Core.Bool.{Bool, true, false, cond, _&&_}
+use Prim.Native.Nat.{ℕ, _+_, _*_, _/_, _%_, _^_, _-_, _≤_, _<_, min}
+use native.Mathlib.Nat.{mod-eq-of-lt, mul-le-mul, le-of-lt}
 use native.Mathlib.Omega.{arith}
 use lib.Dec.{eqb, ltb}
 use borrow.Author.Tests.{ltb-true}
@@ -10,7 +11,19 @@ use Rattle.alf_spec.specs.declared.Gradient.{Gradient}
 use Rattle.alf_spec.specs.Lists.{everyFrom, every}
 use Rattle.alf_spec.specs.Classes.{activityTable, transposeTable, gradient, larger, hv, dd, diagonal, mainGradient, otherGradient, strength, activity, transposeIdx, filtIdx, classOfSums}
 use Rattle.alf_spec.specs.Process.{classNumber}
-use Rattle.alf_spec.proofs.Tests.{cond-either, every-at}
+use Rattle.alf_spec.proofs.Tests.{both, cond-either, every-at}
+
+-- what the test of four numbers against one limit says
+pub four-below : (n a b c d : ℕ) → ((ltb a n && ltb b n) && (ltb c n && ltb d n)) ≡ true → (a < n) × (b < n) × (c < n) × (d < n)
+four-below n a b c d e =
+    let pairs = both (ltb a n && ltb b n) (ltb c n && ltb d n) e in
+    let first = both (ltb a n) (ltb b n) (pairs .0) in
+    let second = both (ltb c n) (ltb d n) (pairs .1) in
+    (ltb-true _ _ (first .0), ltb-true _ _ (first .1), ltb-true _ _ (second .0), ltb-true _ _ (second .1))
+
+-- a shift by up to 3 loses no bit of a sum below 2^18
+pub shift-kept : (n k : ℕ) → n < 2 ^ 18 → k ≤ 8 → n * k % 2 ^ 32 ≡ n * k
+shift-kept n k h l = mod-eq-of-lt (omega (arith, mul-le-mul (le-of-lt h) l))
 
 -- a gradient of sums below 2^18, with a direction below 4
 pub record Small (g : Gradient) : Type 0 where

@@ -1,8 +1,10 @@
-// The class and the transpose of a block, from the sums over its window.
+// The class and the transpose of a block, from the sums over its window. What decides a class has no number wider than 32 bits, and multiplies
+// nowhere but in `products`, 16 bits by 16: other multiples are sums and shifts (02, card 3).
 ghost use mathlib.Core.Path.{_≡_};
 ghost use Prim.Native.Nat.{_+_, _*_, _/_, _^_, _≤_, _<_, min};
 ghost use lib.ListN.{getD};
 ghost use Rattle.alf_spec.specs.Classes.{larger as largerOf, diagonal, strength as strengthOf, activity as activityOf, transposeTable, transposeIdx, filtIdx, classOfSums};
+use crate::products::product_less;
 use crate::tables::activity_entry;
 use crate::tables::transpose_entry;
 use alf_spec::Class;
@@ -29,11 +31,10 @@ fn larger(a: u32, b: u32, da: u32, db: u32) -> Gradient
 }
 
 // d1 * hv0 > hv1 * d0: products, since a sum may be zero
-fn is_diagonal(d: Gradient, g: Gradient) -> bool
-    requires { ⌜ (d .large < 2 ^ 18) × (d .small < 2 ^ 18) × (g .large < 2 ^ 18) × (g .small < 2 ^ 18) ⌝ }
-    ensures { λ r. ⌜ r ≡ diagonal d g ⌝ }
+fn is_diagonal(d: Gradient, hv: Gradient) -> bool
+    ensures { λ r. ⌜ r ≡ diagonal d hv ⌝ }
 {
-    (g.large as u64) * (d.small as u64) < (d.large as u64) * (g.small as u64)
+    product_less(hv.large, d.small, d.large, hv.small)
 }
 
 // (1497)
@@ -41,10 +42,26 @@ fn strength(g: Gradient) -> u32
     requires { ⌜ (g .large < 2 ^ 18) × (g .small < 2 ^ 18) ⌝ }
     ensures { λ r. ⌜ r ≡ strengthOf g ⌝ }
 {
-    if 9 * g.small < g.large * 2 {
+    if (g.small << 3) + g.small < g.large << 1 {
         2
-    } else if 2 * g.small < g.large {
+    } else if g.small << 1 < g.large {
         1
+    } else {
+        0
+    }
+}
+
+// n * factor, for the activity: n is too wide for a factor
+fn multiple(n: u32, factor: u32) -> u32
+    requires { ⌜ (n < 2 ^ 19) × (factor ≤ 3) ⌝ }
+    ensures { λ r. ⌜ r ≡ n * factor ⌝ }
+{
+    if factor == 3 {
+        (n << 1) + n
+    } else if factor == 2 {
+        n << 1
+    } else if factor == 1 {
+        n
     } else {
         0
     }
@@ -62,8 +79,7 @@ pub fn activity(total: u32, factor: u32, depth: u32) -> u32
     requires { ⌜ (total < 2 ^ 19) × (factor ≤ 3) × (8 ≤ depth) × (depth ≤ 12) ⌝ }
     ensures { λ r. ⌜ r ≡ activityOf depth factor total ⌝ }
 {
-    let scaled = (total * factor) >> (depth - 1);
-    activity_entry(up_to_15(scaled) as usize) as u32
+    activity_entry(up_to_15(multiple(total, factor) >> (depth - 1))) as u32
 }
 
 // The transpose, from the directions of the main gradient and the other.
@@ -71,7 +87,7 @@ fn transpose(main: u32, other: u32) -> u32
     requires { ⌜ (main < 4) × (other < 4) ⌝ }
     ensures { λ r. ⌜ r ≡ getD transposeTable (main * 2 + other / 2) 0 ⌝ }
 {
-    transpose_entry((main * 2 + other / 2) as usize) as u32
+    transpose_entry((main << 1) + (other >> 1)) as u32
 }
 
 // (1500)
@@ -83,7 +99,8 @@ fn filter_index(activity: u32, main: Gradient) -> u32
     if k == 0 {
         activity
     } else {
-        activity + (main.direction % 2 * 2 + k) * 5
+        let fives = (main.direction % 2 << 1) + k;
+        activity + (fives << 2) + fives
     }
 }
 

@@ -2,6 +2,7 @@
 // definition of `alf_spec`.
 pub mod direction;
 pub mod grid;
+pub mod products;
 pub mod rounding;
 pub mod tables;
 pub mod taps;

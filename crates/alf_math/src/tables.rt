@@ -19,18 +19,18 @@ const TAP_ORDER: [[u8; 12]; 4] = [
     [9, 8, 10, 4, 3, 7, 11, 5, 1, 0, 2, 6],
 ];
 
-pub fn activity_entry(k: usize) -> u8
+pub fn activity_entry(k: u32) -> u8
     requires { ⌜ k < 16 ⌝ }
     ensures { λ r. ⌜ r ≡ getD activityTable k 0 ⌝ }
 {
-    ACTIVITY[k]
+    ACTIVITY[k as usize]
 }
 
-pub fn transpose_entry(k: usize) -> u8
+pub fn transpose_entry(k: u32) -> u8
     requires { ⌜ k < 8 ⌝ }
     ensures { λ r. ⌜ r ≡ getD transposeTable k 0 ⌝ }
 {
-    TRANSPOSE[k]
+    TRANSPOSE[k as usize]
 }
 
 // Which coefficient and clip tap j uses.

@@ -43,7 +43,7 @@ class-of-sums-spec =
     (λ c κs. search needs)
     (λ c. search needs)
     (λ c κs. search needs)
-    (λ c κs. omega (arith, slanted-small (c .before .before), straight-small (c .before .before .before)))
+    (λ c κs. search needs)
     (λ c κs. let a = c .before .before in omega (arith, level-small a, slanted-small (a .before .before), straight-small (a .before .before .before)))
     (λ c κs. let a = c .before .before in omega (arith, level-small a, slanted-small (a .before .before), straight-small (a .before .before .before)))
     returns

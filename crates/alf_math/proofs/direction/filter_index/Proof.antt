@@ -2,14 +2,23 @@
 use native.Mathlib.Omega.{arith}
 use borrow.Author.Needs.{needs}
 use borrow.Author.Tests.{eq-eqb, ne-eqb}
-use Prim.Native.Nat.{_<_}
+use Prim.Native.Nat.{_+_, _*_, _%_, _<_}
 use Rattle.alf_spec.specs.Classes.{strength, filtIdx}
-use Rattle.alf_math.proofs.Gradients.{strength-small}
+use Rattle.alf_math.proofs.Gradients.{shift-kept, strength-small}
 use Rattle.alf_math.proofs.direction.filter_index.Statement.{statement}
 use Rattle.alf_math.proofs.direction.filter_index.Tie as tie
 
 small : (c : tie.After-strength) → c .strength .result < 3
 small c = rw (c .strength .ensures) (strength-small (c .before .args .main))
+
+strong : tie.Need-returns-2
+unfolding filtIdx
+strong c =
+    let s = c .before .before in
+    let odd = s .before .args .main .direction % 2 in
+    let fives = odd * 2 + s .strength .result in
+    rw (← s .strength .ensures, ne-eqb (s .strength .result) 0 (c .before .if1 .left), shift-kept odd 2 (omega arith) (omega arith), shift-kept fives 4 (omega (arith, small s)) (omega arith))
+    (omega arith)
 
 pub filter-index-spec : {M : Type 1} → statement M
 unfolding filtIdx
@@ -17,9 +26,8 @@ filter-index-spec =
     tie.close
     (tie.spec
     (λ c κs. search needs)
-    (λ c. search needs)
     (λ c. omega (arith, small (c .before .before)))
     (λ c. omega (arith, small (c .before .before)))
     (λ c. omega (arith, small (c .before .before)))
     (λ c. rw (← c .before .strength .ensures, eq-eqb (c .before .strength .result) 0 (c .if1 .taken)))
-    (λ c. rw (← c .before .before .strength .ensures, ne-eqb (c .before .before .strength .result) 0 (c .before .if1 .left))))
+    strong)
