@@ -1,18 +1,18 @@
-// Runs the worked examples P1 to P12 of paper 01 on the proved leaves, one line each; P9 also with the line of card 4.
+// Runs the worked examples P1 to P12 of paper 01 on the proved leaves, one line each; behind P8 the largest sums, for card 3, and P9 also with the
+// line of card 4.
+mod classes;
 mod positions;
 
 ghost use Prim.Native.Nat.{_^_, _≤_, _<_};
 ghost use lib.IntN.{natAbs};
 ghost use Rattle.alf_math.specs.Integers.{ClipRange};
 use alf_math::direction::activity;
-use alf_math::direction::class_of_sums;
 use alf_math::rounding::filtered;
 use alf_math::rounding::rounded;
 use alf_math::taps::tap;
 use alf_print::print;
 use alf_print::print_integer;
 use alf_print::print_number;
-use alf_spec::Sums;
 
 // A number, and what comes of it.
 fn show(n: i32, r: i32) {
@@ -27,35 +27,6 @@ fn show_rounded(sum: i32, shift: u32)
     requires { ⌜ (natAbs sum ≤ 2 ^ 20) × (shift < 32) ⌝ }
 {
     show(sum, rounded(sum, shift));
-}
-
-// Sums, and their class and transpose at depth 8 with factor 2.
-fn show_class(v: u32, h: u32, d0: u32, d1: u32)
-    requires { ⌜ (v < 2 ^ 18) × (h < 2 ^ 18) × (d0 < 2 ^ 18) × (d1 < 2 ^ 18) ⌝ }
-{
-    print(b"  V ");
-    print_number(v);
-    print(b"  H ");
-    print_number(h);
-    print(b"  D0 ");
-    print_number(d0);
-    print(b"  D1 ");
-    print_number(d1);
-    let class = class_of_sums(
-        Sums {
-            v: v,
-            h: h,
-            d0: d0,
-            d1: d1,
-        },
-        2,
-        8,
-    );
-    print(b" -> class ");
-    print_number(class.filter);
-    print(b", transpose ");
-    print_number(class.transpose);
-    print(b"\n");
 }
 
 // V + H, and the activity at depth 10 with factor 2.
@@ -85,19 +56,22 @@ fn main() {
     show_rounded(959, 10);
     show_rounded(960, 10);
     print(b"\nP3 ");
-    show_class(0, 0, 0, 0);
-    print(b"P4 ");
-    show_class(10, 2, 4, 4);
-    print(b"P5 ");
-    show_class(9, 2, 4, 4);
-    print(b"P6 ");
-    show_class(3, 3, 8, 1);
-    print(b"P7 ");
-    show_class(5, 0, 7, 0);
-    print(b"P8   activity of V + H, depth 10:");
+    classes::show_class(0, 0, 0, 0, 8);
+    print(b"\nP4 ");
+    classes::show_class(10, 2, 4, 4, 8);
+    print(b"\nP5 ");
+    classes::show_class(9, 2, 4, 4, 8);
+    print(b"\nP6 ");
+    classes::show_class(3, 3, 8, 1, 8);
+    print(b"\nP7 ");
+    classes::show_class(5, 0, 7, 0, 8);
+    print(b"\nP8   activity of V + H, depth 10:");
     show_activity(3839);
     show_activity(3840);
-    print(b"\nP9   clip positions, CTB of 32:");
+    print(b"\n     largest sums, depth 12:\n");
+    classes::show_largest();
+    classes::show_ties();
+    print(b"P9   clip positions, CTB of 32:");
     positions::show_below(4, 23);
     positions::show_below(4, 24);
     positions::show_above(4, 28);
