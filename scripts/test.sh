@@ -58,6 +58,7 @@ bench_agrees() { (cd host && cargo build --quiet --release --offline -p bench) &
 single "layout of the sources" rt fmt --check
 single "layout of the host's sources" host_layout
 single "the crates that each crate names" dependencies
+single "the widths of what decides a class" scripts/class-widths.sh
 counted "proofs, must-fail edits and programs" rt ci
 single "the static library" scripts/lib.sh
 counted "the C interface from C" scripts/c-tests.sh

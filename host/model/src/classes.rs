@@ -12,7 +12,7 @@ const TRANSPOSE_TABLE: [u8; 8] = [0, 1, 0, 2, 2, 3, 1, 3];
 
 /// The gradient sums of (1476) to (1479).
 #[derive(Clone, Copy, Debug, Default, PartialEq, Eq)]
-pub(crate) struct Sums {
+pub struct Sums {
     pub v: i64,
     pub h: i64,
     pub d0: i64,
@@ -104,7 +104,7 @@ fn gradient_sums(layout: &Layout, plane: &Plane, ctb: Ctb, (x4, y4): (i64, i64),
 }
 
 /// (1480) to (1500): filtIdx and transposeIdx from the four sums.
-pub(crate) fn class_of_sums(sums: Sums, ac: i64, bit_depth: u8) -> (u8, u8) {
+pub fn class_of_sums(sums: Sums, ac: i64, bit_depth: u8) -> (u8, u8) {
     let (hv1, hv0, dir_hv) = if sums.v > sums.h {
         (sums.v, sums.h, 1)
     } else {

@@ -23,7 +23,7 @@ mod taps;
 mod tests;
 
 pub use causes::clip_causes;
-pub use classes::classes;
+pub use classes::{class_of_sums, classes, Sums};
 pub use filters::{chroma, cross_component, luma};
 pub use layout::{FixedTables, Layout, Parameters};
 pub use region::isolated;
