@@ -17,8 +17,9 @@ strong c =
     let s = c .before .before in
     let odd = s .before .args .main .direction % 2 in
     let fives = odd * 2 + s .strength .result in
-    rw (← s .strength .ensures, ne-eqb (s .strength .result) 0 (c .before .if1 .left), shift-kept odd 2 (omega arith) (omega arith), shift-kept fives 4 (omega (arith, small s)) (omega arith))
-    (omega arith)
+    let doubled = shift-kept odd 2 (omega arith) (omega arith) in
+    let fourfold = shift-kept fives 4 (omega (arith, small s)) (omega arith) in
+    rw (← s .strength .ensures, ne-eqb (s .strength .result) 0 (c .before .if1 .left), doubled, fourfold) (omega arith)
 
 pub filter-index-spec : {M : Type 1} → statement M
 unfolding filtIdx

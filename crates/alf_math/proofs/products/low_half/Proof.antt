@@ -1,5 +1,4 @@
 -- `alf_math::products::low_half` meets its contract: a mask of 16 ones takes the remainder. Assumes nothing.
-use native.Mathlib.Omega.{arith}
 use lib.Bits.{and-mask, mask-lt}
 use Rattle.alf_math.proofs.products.low_half.Statement.{statement}
 use Rattle.alf_math.proofs.products.low_half.Tie as tie
