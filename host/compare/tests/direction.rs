@@ -3,12 +3,16 @@
 use compare::random::Random;
 use compare::seeds;
 use model::{class_of_sums, Sums};
+use std::collections::HashSet;
 
 #[link(name = "direction_c", kind = "static")]
 extern "C" {
     fn direction_product_less(a: u32, b: u32, c: u32, d: u32) -> bool;
     fn direction_class(v: u32, h: u32, d0: u32, d1: u32, factor: u32, depth: u32) -> u8;
 }
+
+/// How many different inputs a random test has at least; what is drawn twice counts once.
+const DIFFERENT: usize = 1_000_000;
 
 /// Sums stay below this, and are at most 262,080 in a picture.
 const SUMS: u32 = 1 << 18;
@@ -67,20 +71,28 @@ fn nearly_equal(random: &mut Random, bits: u64, limit: u32) -> [u32; 4] {
 
 #[test]
 fn products_of_random_numbers() {
+    let mut different = HashSet::new();
     let (mut lesser, mut equal, mut by_low_words) = (0, 0, 0);
-    let all = seeds::run("random products", 4_000_000, 1_000_000, |seed| {
+    let all = seeds::run("random products", 4_000_000, 1_050_000, |seed| {
         let mut random = Random::new(seed);
         let four = match random.below(3) {
             0 => [(); 4].map(|()| random.next() as u32),
             1 => [(); 4].map(|()| of_any_width(&mut random, 32)),
             _ => nearly_equal(&mut random, 16, u32::MAX),
         };
+        if !different.insert(four) {
+            return;
+        }
         lesser += u64::from(less(four));
         let (one, other) = (product(four[0], four[1]), product(four[2], four[3]));
-        equal += u64::from(one == other);
+        equal += u64::from(one == other && one != 0);
         by_low_words += u64::from(one != other && one >> 32 != 0 && one >> 32 == other >> 32);
     });
-    println!("  {lesser} were less, {equal} equal, {by_low_words} told apart by their low words alone though both reach 33 bits");
+    println!(
+        "  {} different: {lesser} less, {equal} equal and not 0, {by_low_words} told apart by their low words alone though both reach 33 bits",
+        different.len()
+    );
+    assert!(!all || different.len() >= DIFFERENT);
     assert!(!all || [lesser, equal, by_low_words].iter().all(|&n| n >= 10_000));
 }
 
@@ -114,8 +126,9 @@ fn products_of_edges() {
 
 #[test]
 fn classes_of_random_sums() {
+    let mut different = HashSet::new();
     let mut seen = [[0u64; 4]; 25];
-    let all = seeds::run("random sums", 5_000_000, 1_000_000, |seed| {
+    let all = seeds::run("random sums", 6_000_000, 1_400_000, |seed| {
         let mut random = Random::new(seed);
         let four = match random.below(4) {
             0 => [(); 4].map(|()| random.below(SUMS.into()) as u32),
@@ -127,11 +140,19 @@ fn classes_of_random_sums() {
                 [9 * unit, 2 * unit, 4 * unit, 4 * unit].map(|n| nudged(&mut random, n, SUMS - 1))
             }
         };
-        let (filter, transpose) = class(four, random.between(2, 3) as u32, random.between(8, 12) as u8);
+        let (factor, depth) = (random.between(2, 3) as u32, random.between(8, 12) as u8);
+        if !different.insert((four, factor, depth)) {
+            return;
+        }
+        let (filter, transpose) = class(four, factor, depth);
         seen[usize::from(filter)][usize::from(transpose)] += 1;
     });
     let rarest = seen.iter().flatten().min().unwrap();
-    println!("  25 classes by 4 transposes: the rarest was met {rarest} times");
+    println!(
+        "  {} different; of 25 classes by 4 transposes the rarest was met {rarest} times",
+        different.len()
+    );
+    assert!(!all || different.len() >= DIFFERENT);
     assert!(!all || *rarest > 0);
 }
 
