@@ -66,7 +66,8 @@ module _ (l : Layout) (g : Grid) (h : GridOf (l .picture) g) where
     slice-step-is m n e = rw (e, own, grid-columns l g h)
 
     -- the side left or right, from what its neighbour says
-    pub column-side : {n : Neighbour} {there : Bool} {r : ClipCause} {x : ℕ} → n ≡ record { there = there; ctb = record { column = x; row = c .row } }
+    pub column-side : {n : Neighbour} {there : Bool} {r : ClipCause} {x : ℕ}
+        → n ≡ record { there = there; ctb = record { column = x; row = c .row } }
         → there ≡ hasNext (g .columns) d (c .column) → x ≡ next d (c .column)
         → r ≡ cond (n .there) (causeInto o (memberOf (o .columns) (n .ctb))) Open → r ≡ columnSide l c d
     unfolding columnSide
@@ -74,7 +75,8 @@ module _ (l : Layout) (g : Grid) (h : GridOf (l .picture) g) where
         e ∙ cond-same (ap (λ (n : Neighbour). n .there) is ∙ has ∙ columns-have d (c .column)) (step-is _ (besideCtb d c) (rw (is, at)))
 
     -- above or below
-    pub row-side : {n : Neighbour} {there : Bool} {r : ClipCause} {y : ℕ} → n ≡ record { there = there; ctb = record { column = c .column; row = y } }
+    pub row-side : {n : Neighbour} {there : Bool} {r : ClipCause} {y : ℕ}
+        → n ≡ record { there = there; ctb = record { column = c .column; row = y } }
         → there ≡ hasNext (g .rows) d (c .row) → y ≡ next d (c .row)
         → r ≡ cond (n .there) (causeInto o (memberOf (o .columns) (n .ctb))) Open → r ≡ rowSide l c d
     unfolding rowSide
@@ -82,7 +84,8 @@ module _ (l : Layout) (g : Grid) (h : GridOf (l .picture) g) where
         e ∙ cond-same (ap (λ (n : Neighbour). n .there) is ∙ has ∙ rows-have d (c .row)) (step-is _ (stackedCtb d c) (rw (is, at)))
 
     -- the corner up-left or down-right
-    pub corner : {n : Neighbour} {beside stacked r : Bool} {x y : ℕ} → n ≡ record { there = beside && stacked; ctb = record { column = x; row = y } }
+    pub corner : {n : Neighbour} {beside stacked r : Bool} {x y : ℕ}
+        → n ≡ record { there = beside && stacked; ctb = record { column = x; row = y } }
         → beside ≡ hasNext (g .columns) d (c .column) → x ≡ next d (c .column)
         → stacked ≡ hasNext (g .rows) d (c .row) → y ≡ next d (c .row)
         → r ≡ (n .there && sliceStepDisabled o (memberOf (o .columns) (n .ctb) .slice)) → r ≡ cornerDisabled l c d

@@ -22,7 +22,11 @@ unmet-none a xs = record { within = omega arith; rest = refl }
 module _ {a : ℕ} {xs : List ℕ} {i : ℕ} (u : Unmet a xs i) where
   pub unmet-more : i < length xs → ¬ (a ≡ getD xs i 0) → Unmet a xs (i + 1)
   unfolding elem
-  unmet-more h other = record { within = omega arith; rest = u .rest ∙ rw (add-one, drop-cons xs i 0 h, elem, ne-eqb a (getD xs i 0) other) }
+  unmet-more h other = record {
+    within = omega arith;
+    rest = u .rest
+        ∙ rw (add-one, drop-cons xs i 0 h, elem, ne-eqb a (getD xs i 0) other);
+  }
 
   pub unmet-found : i < length xs → a ≡ getD xs i 0 → true ≡ elem a xs
   unfolding elem

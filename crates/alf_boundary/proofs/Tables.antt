@@ -42,7 +42,8 @@ module _ {g : Grid} {tileColumns tileRows sliceMap subpicMap subpicAcross : List
   pub in-tables : (c : Ctb) → c .column < g .columns → c .row < g .rows
       → InTables (g .columns) tileColumns tileRows sliceMap subpicMap subpicAcross c
   in-tables c x y =
-      let here : c .row * g .columns + c .column < length subpicMap = rw (t .subpicLength) (place-below (g .columns) (g .rows) (c .column) (c .row) x y) in
+      let here : c .row * g .columns + c .column < length subpicMap =
+      rw (t .subpicLength) (place-below (g .columns) (g .rows) (c .column) (c .row) x y) in
       let below = every-at 0 0 (λ k n. ltb n 64) subpicMap (t .subpictures) (c .row * g .columns + c .column) here in
       record {
         column = rw (t .columnsLength) x;

@@ -1,5 +1,5 @@
-// The clip positions of a position along an axis of the picture, and their causes: the line-buffer boundary, a virtual boundary, or why filtering across
-// the side of its CTB is disabled.
+// The clip positions of a position along an axis of the picture, and their causes: the line-buffer boundary, a virtual boundary, or why
+// filtering across the side of its CTB is disabled.
 ghost use mathlib.Core.Path.{_≡_};
 ghost use mathlib.Core.List.{List};
 ghost use Prim.Native.Nat.{ℕ, _+_, _-_, _*_, _/_, _≤_, _<_};
@@ -99,10 +99,12 @@ pub fn line_rule(size: u32, ctb: u32, y: u32) -> bool
     ctb_start(ctb, y) + ctb <= size
 }
 
-// The line-buffer boundary, which lies so many luma rows above the CTB's bottom, where x is at or below it; there is none where the number is 0.
+// The line-buffer boundary, which lies so many luma rows above the CTB's bottom, where x is at or below it; there is none where the number
+// is 0.
 fn line_clip_before(start: u32, ctb: u32, line: u32, x: u32) -> FoundClip
     requires { ⌜ InCtb start ctb line x ⌝ }
-    ensures { λ r. ⌜ ((size : ℕ) (boundaries : List ℕ) (ratio : ℕ) → clipOf r ≡ lineClip (axisOf size ctb boundaries line ratio) x before) ⌝ }
+    ensures { λ r. ⌜ ((size : ℕ) (boundaries : List ℕ) (ratio : ℕ)
+        → clipOf r ≡ lineClip (axisOf size ctb boundaries line ratio) x before) ⌝ }
 {
     let at = start + (ctb - line);
     only_if(
@@ -115,7 +117,8 @@ fn line_clip_before(start: u32, ctb: u32, line: u32, x: u32) -> FoundClip
 // The same where x is 1 to 4 rows above it.
 fn line_clip_after(start: u32, ctb: u32, line: u32, x: u32) -> FoundClip
     requires { ⌜ InCtb start ctb line x ⌝ }
-    ensures { λ r. ⌜ ((size : ℕ) (boundaries : List ℕ) (ratio : ℕ) → clipOf r ≡ lineClip (axisOf size ctb boundaries line ratio) x after) ⌝ }
+    ensures { λ r. ⌜ ((size : ℕ) (boundaries : List ℕ) (ratio : ℕ)
+        → clipOf r ≡ lineClip (axisOf size ctb boundaries line ratio) x after) ⌝ }
 {
     let at = start + (ctb - line);
     only_if(

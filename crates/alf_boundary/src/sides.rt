@@ -107,8 +107,8 @@ fn slice_step_disabled(origin: Origin, slice: u8) -> bool
     !(own.slice == slice) & !origin.across_slices
 }
 
-// What disables the step into a CTB of this membership: it is of another tile, slice or subpicture, and the switch for that is off. The first of
-// these counts.
+// What disables the step into a CTB of this membership: it is of another tile, slice or subpicture, and the switch for that is off. The
+// first of these counts.
 fn step_cause(origin: Origin, into: Membership) -> ClipCause
     ensures { λ r. ⌜ r ≡ causeInto origin into ⌝ }
 {
@@ -140,8 +140,10 @@ fn side_cause(
     n: Neighbour,
 ) -> ClipCause
     requires { ⌜ (n .there ≡ true
-        → InTables (origin .columns) (now «tile_columns») (now «tile_rows») (now «slice_map») (now «subpic_map») (now «subpic_across») (n .ctb)) ⌝ }
-    ensures { λ r. ⌜ r ≡ cond (n .there) (causeInto origin (membershipAt (origin .columns) (now («tile_columns» .entry)) (now («tile_rows» .entry))
+        → InTables (origin .columns) (now «tile_columns») (now «tile_rows») (now «slice_map») (now «subpic_map»)
+        (now «subpic_across») (n .ctb)) ⌝ }
+    ensures { λ r. ⌜ r ≡ cond (n .there) (causeInto origin (membershipAt (origin .columns) (now («tile_columns» .entry))
+        (now («tile_rows» .entry))
         (now («slice_map» .entry)) (now («subpic_map» .entry)) (now («subpic_across» .entry)) (n .ctb))) Open ⌝ }
 {
     if !n.there {
@@ -202,7 +204,8 @@ pub fn sides_of(
         × (TablesOf grid (now «tile_columns») (now «tile_rows») (now «slice_map») (now «subpic_map») (now «subpic_across»))
         × (ctb .column < grid .columns) × (ctb .row < grid .rows) ⌝ }
     ensures { λ s. ⌜ ((columns rows : List ℕ) → SidesOf
-        (layoutOf picture columns rows (now («tile_columns» .entry)) (now («tile_rows» .entry)) (now («slice_map» .entry)) (now («subpic_map» .entry))
+        (layoutOf picture columns rows (now («tile_columns» .entry)) (now («tile_rows» .entry)) (now («slice_map» .entry))
+        (now («subpic_map» .entry))
         (now («subpic_across» .entry))) ctb s) ⌝ }
 {
     let columns = grid.columns;

@@ -13,7 +13,9 @@ use Rattle.alf_spec.specs.declared.SideCauses.{SideCauses}
 use Rattle.alf_spec.specs.declared.ClipCauses.{ClipCauses}
 use Rattle.alf_spec.specs.declared.ClipCauses.the-variants as causes
 use Rattle.alf_spec.specs.Input.{Layout}
-use Rattle.alf_spec.specs.Faults.{pictureSizeValid, ctbSizeValid, bitDepthValid, chromaFormatValid, layoutLengthsValid, virtualBoundariesValid, tilesValid, slicesValid, subpicturesValid, positionValid, unless, layoutFault, causesFault}
+use Rattle.alf_spec.specs.Faults.{pictureSizeValid, ctbSizeValid, bitDepthValid, chromaFormatValid, layoutLengthsValid}
+use Rattle.alf_spec.specs.Faults.{virtualBoundariesValid, tilesValid, slicesValid, subpicturesValid, positionValid, unless, layoutFault}
+use Rattle.alf_spec.specs.Faults.{causesFault}
 use Rattle.alf_spec.specs.Answers.{faultNumber, causesNumber, causesNamed, causeNumbers, kept}
 use Rattle.alf_spec.proofs.Answers.{numbered}
 use Rattle.alf_c.specs.Calls.{withoutRoom}
@@ -93,7 +95,8 @@ module _ (a : ClipCauses) (l : Layout) (x y : ℕ) (c : SideCauses) (e : causesN
   pub no-room : room ≡ false → {n r : ℕ} → n ≡ causesNumber a → r ≡ withoutRoom n
       → (r ≡ causesFault l room x y) × (old ≡ kept (causesFault l room x y) (causeNumbers c) old)
   no-room f {n} {r} h w =
-      let same : withoutRoom n ≡ causesFault l room x y = ap withoutRoom (h ∙ e) ∙ room-fault l x y ∙ ap (λ (t : Bool). causesFault l t x y) (sym f) in
+      let same : withoutRoom n ≡ causesFault l room x y = ap withoutRoom (h ∙ e) ∙ room-fault l x y
+      ∙ ap (λ (t : Bool). causesFault l t x y) (sym f) in
       (w ∙ same, rw (← same) (kept-old n (causeNumbers c) old))
 
   pub named : room ≡ true → {k : SideCauses} → a ≡ causes.Named k → {new : List ℕ} → new ≡ cond room (causeNumbers k) old

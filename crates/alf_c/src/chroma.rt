@@ -36,7 +36,8 @@ pub extern "C" fn alf_chroma(
         let picture = pictureOf width height «ctb_log2» «bit_depth» «chroma_format» «slice_count» «across_tiles» «across_slices» in
         let layout = layoutOf picture (now («virtual_columns» .entry)) (now («virtual_rows» .entry)) (now («tile_columns» .entry))
         (now («tile_rows» .entry)) (now («slice_map» .entry)) (now («subpic_map» .entry)) (now («subpic_across» .entry)) in
-        let input = chromaInput layout (now («slice_params» .entry)) (now (bank .entry)) (now («ctb_params» .entry)) (now («ctb_list» .entry)) (now (chroma .entry))
+        let input = chromaInput layout (now («slice_params» .entry)) (now (bank .entry)) (now («ctb_params» .entry))
+        (now («ctb_list» .entry)) (now (chroma .entry))
         (length (now (output .entry))) in
         Ran (chromaOf component) input r (now (output .entry)) (now (output .exit))) ⌝ }
 {

@@ -43,7 +43,8 @@ fn write_causes(named: SideCauses, causes: &mut [u8])
     causes[3] = cause_number(right);
 }
 
-// The number of the lowest fault, and `causes` stays as it was; or 0, and it has the causes on the four sides of the luma sample at column x and row y.
+// The number of the lowest fault, and `causes` stays as it was; or 0, and it has the causes on the four sides of the luma sample at column
+// x and row y.
 #[no_mangle]
 pub extern "C" fn alf_clip_causes(
     width: u32,

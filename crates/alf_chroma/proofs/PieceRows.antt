@@ -77,7 +77,8 @@ module _ {p : Picture} {g : Grid} {columns rows : Piece} {copy : List ℕ} {taps
           let inCopy : (y - rows .start + 6) * (n + 6) ≤ pitch rows * pitch columns =
           rw (B .nIs) (mul-le-mul-right (pitch columns) (omega arith)) in
           let height : ℕ = p .height / subHeight p in
-          let inPlane : y * width + width ≤ height * width = row-room y height width _ (omega (arith, D .high, D .inside)) (omega arith) in (
+          let inPlane : y * width + width ≤ height * width = row-room y height width _ (omega (arith, D .high, D .inside))
+          (omega arith) in (
             omega (arith, B .nIs, A .small),
             omega (arith, D .small),
             bounds .0,

@@ -40,7 +40,8 @@ use Rattle.alf_params.specs.Filters.{ChromaFilter}
 use Rattle.alf_chroma.specs.Pieces.{Spread, unlinedPlane, copyChromaAt}
 
 -- the columns of the plane, as code has them
-pub columns-wide : (l : Layout) {p : Picture} {ratio : ℕ} → l .picture ≡ p → ratio ≡ subWidth p → samples (chromaPlane l .columns) ≡ p .width / ratio
+pub columns-wide : (l : Layout) {p : Picture} {ratio : ℕ} → l .picture ≡ p → ratio ≡ subWidth p
+    → samples (chromaPlane l .columns) ≡ p .width / ratio
 unfolding planeOf
 columns-wide l e r = rw (e, r)
 
@@ -72,7 +73,8 @@ module _ (i : Input) {p : Picture} {c : Ctb} {s : Sides} (ctb : CtbOf (i .layout
     unfolding planeOf
     in-plane =
         let l = i .layout in
-        let numbers = row-facts ctb (subWidth (l .picture)) (subHeight (l .picture)) 0 (chroma-ratios (l .picture) .1) walk-none down .numbers in
+        let numbers = row-facts ctb (subWidth (l .picture)) (subHeight (l .picture)) 0
+        (chroma-ratios (l .picture) .1) walk-none down .numbers in
         omega (arith, numbers .high, numbers .inside)
 
     regular : Regular (chromaPlane (i .layout) .rows)
@@ -87,7 +89,8 @@ module _ (i : Input) {p : Picture} {c : Ctb} {s : Sides} (ctb : CtbOf (i .layout
         let l = i .layout in
         let ratios = chroma-ratios (l .picture) in
         chroma-read i regular component x y in-plane u v low high
-        ∙ copy-holds ctb (subWidth (l .picture)) (subHeight (l .picture)) 0 (ratios .0) (ratios .1) walk-none across down (i .chroma) copy copy0 wide copies room
+        ∙ copy-holds ctb (subWidth (l .picture)) (subHeight (l .picture)) 0 (ratios .0) (ratios .1) walk-none across down
+        (i .chroma) copy copy0 wide copies room
         x y u v (column + m) j
         (chroma-in (unlinedPlane l .columns) columns x u (ratios .0) left right (omega arith) (omega arith))
         (chroma-in (unlinedPlane l .rows) rows y v (ratios .1) top bottom (omega arith) (omega arith))
@@ -156,7 +159,8 @@ module _ (i : Input) {p : Picture} {c : Ctb} {s : Sides} (ctb : CtbOf (i .layout
           (ap (λ (z : ℤ). filtered (i .layout .picture .«bit_depth») (r .shift) (getD copy (at (row + 3) + column + 3) 0) z) numbers)
 
   -- the sample at index k
-  pub sample-same : {g : Grid} → GridOf p g → {filters taps : List ℤ} → ChromaFilter i c component filters → Spread filters 6 (extent columns) taps
+  pub sample-same : {g : Grid} → GridOf p g → {filters taps : List ℤ} → ChromaFilter i c component filters
+      → Spread filters 6 (extent columns) taps
       → (k : ℕ) → inRect (p .width / subWidth p) (columns .start) (columns .end) (rows .start) (rows .end) k ≡ true
       → copyChromaAt p (g .ctb) copy taps columns rows k ≡ atIndex (chromaPlane (i .layout)) (chromaSample i component) k
   unfolding planeOf copyChromaAt atIndex chromaSample lineRule bottomDistance
@@ -165,4 +169,5 @@ module _ (i : Input) {p : Picture} {c : Ctb} {s : Sides} (ctb : CtbOf (i .layout
       let f : Inside (q .width / subWidth q) (columns .start) (columns .end) (rows .start) (rows .end) k =
       rw (ctb .picture) (rect-facts (p .width / subWidth p) (columns .start) (columns .end) (rows .start) (rows .end) k t) in
       rw (grid .ctb, ← (ctb .picture))
-      (with-same (k % (q .width / subWidth q)) (k / (q .width / subWidth q)) (f .0) (f .1) (f .2) (f .3) _ (chroma-offsets _ _) (row-order _ _) refl F S)
+      (with-same (k % (q .width / subWidth q)) (k / (q .width / subWidth q)) (f .0) (f .1) (f .2) (f .3) _ (chroma-offsets _ _)
+      (row-order _ _) refl F S)

@@ -64,7 +64,8 @@ module _ (filters : List ℤ) (j : ℕ) {n : ℕ} {taps one two : List ℤ} (T :
   spread-more S = record {
     coefficients = λ i x h l.
         coefficient-at (128 * i + x) (omega arith)
-        ∙ by-cases (ℕ-discrete i j) (λ (e : i ≡ j). rw (e, here x l)) (λ ne. rw (apart i x (omega arith) l) (S .coefficients i x (omega arith) l));
+        ∙ by-cases (ℕ-discrete i j) (λ (e : i ≡ j). rw (e, here x l))
+        (λ ne. rw (apart i x (omega arith) l) (S .coefficients i x (omega arith) l));
     clips = λ i x h l.
         clip-at (128 * i + x) (omega arith)
         ∙ by-cases (ℕ-discrete i j) (λ (e : i ≡ j). rw (e, here x l)) (λ ne. rw (apart i x (omega arith) l) (S .clips i x (omega arith) l));

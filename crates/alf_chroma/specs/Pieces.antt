@@ -30,7 +30,8 @@ pub record Spread (filters : List ℤ) (count n : ℕ) (taps : List ℤ) : Type 
 
 -- ---- what functions are given
 
--- an accepted picture and its grid, the component's plane, a filter; room for the copy of a piece, for the filter's numbers, and for the output
+-- an accepted picture and its grid, the component's plane, a filter; room for the copy of a piece, for the filter's numbers, and for the
+-- output
 pub record ChromaWork (p : Picture) (g : Grid) (chroma : List ℕ) (filters : List ℤ) (copy : ℕ) (taps : List ℤ) (output : ℕ) : Type 0 where
   pub grid : GridOf p g
   pub sizes : pictureSizeValid p ≡ true

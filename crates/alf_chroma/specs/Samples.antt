@@ -8,8 +8,8 @@ use Rattle.alf_spec.specs.declared.ChromaRows.{ChromaRows}
 use Rattle.alf_spec.specs.Arithmetic.{tapSum, filtered}
 use Rattle.alf_taps.specs.Spread.{spreadCoeff, spreadClip}
 
--- (1508): where the taps 0 to 5 of the sample at column x read, the first of each pair. The rows of the copy begin at z (the sample's own), p1
--- and p2 (those y1 and y2 below); the sample's column of the copy is x + 3.
+-- (1508): where the taps 0 to 5 of the sample at column x read, the first of each pair. The rows of the copy begin at z (the sample's own),
+-- p1 and p2 (those y1 and y2 below); the sample's column of the copy is x + 3.
 unfoldable pub copyPlus : List ℕ → ℕ → ℕ → ℕ → ℕ → List ℕ
 copyPlus copy z p1 p2 x =
     getD copy (p2 + x + 3) 0
@@ -38,7 +38,8 @@ copySampleFrom copy m2 m1 z p1 p2 taps shift depth from k = copySample copy m2 m
 -- the filtered sample at column x and row t of a piece: a row of the copy has `pitch` samples, and the sample's is t + 3
 unfoldable pub pieceSample : List ℕ → ℕ → ChromaRows → List ℤ → ℕ → ℕ → ℕ → ℕ
 pieceSample copy pitch r taps depth t x =
-    copySample copy ((t + 3 - r .y2) * pitch) ((t + 3 - r .y1) * pitch) ((t + 3) * pitch) ((t + 3 + r .y1) * pitch) ((t + 3 + r .y2) * pitch)
+    copySample copy ((t + 3 - r .y2) * pitch) ((t + 3 - r .y1) * pitch) ((t + 3) * pitch) ((t + 3 + r .y1) * pitch)
+    ((t + 3 + r .y2) * pitch)
     taps (r .shift) depth x
 
 -- at place k of a list, likewise

@@ -1,5 +1,5 @@
-// The six taps of a chroma sample, and a row of filtered samples, over the copy of a piece. One loop runs over the columns of a row with all
-// taps in its body, loads and stores 16 bits alone and calls the function of a sample at one place: so vectors hold eight columns.
+// The six taps of a chroma sample, and a row of filtered samples, over the copy of a piece. One loop runs over the columns of a row with
+// all taps in its body, loads and stores 16 bits alone and calls the function of a sample at one place: so vectors hold eight columns.
 ghost use mathlib.Core.Path.{_≡_};
 ghost use Prim.Native.Nat.{_+_, _≤_, _<_};
 ghost use lib.ListN.{length};
@@ -12,8 +12,8 @@ use alf_math::rounding::filtered;
 use alf_taps::COLUMNS;
 use alf_taps::add_tap;
 
-// The taps of the sample at column x. The rows of the copy that they read begin at m2, m1, z, p1 and p2: those y2 and y1 above the sample's, its
-// own, and those y1 and y2 below; the sample's column of the copy is x + 3.
+// The taps of the sample at column x. The rows of the copy that they read begin at m2, m1, z, p1 and p2: those y2 and y1 above the
+// sample's, its own, and those y1 and y2 below; the sample's column of the copy is x + 3.
 fn chroma_sum(
     copy: &[u16],
     curr: u16,

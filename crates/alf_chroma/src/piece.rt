@@ -131,8 +131,9 @@ fn filter_rows(
     }
 }
 
-// The filtered samples of a piece: those of every input in which a CTB has these sides and this filter, and the piece is one of its pieces. The
-// pieces are in the samples of the component's plane and go on over the line, which no tap reads across; a filter is 6 coefficients and then 6 clips.
+// The filtered samples of a piece: those of every input in which a CTB has these sides and this filter, and the piece is one of its pieces.
+// The pieces are in the samples of the component's plane and go on over the line, which no tap reads across; a filter is 6 coefficients and
+// then 6 clips.
 pub fn filter_piece(
     picture: Picture,
     grid: Grid,

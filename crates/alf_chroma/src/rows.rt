@@ -1,4 +1,5 @@
-// How far above and below its row a chroma sample's taps read, and the shift of their sum: by the row's distance from the bottom of its CTB.
+// How far above and below its row a chroma sample's taps read, and the shift of their sum: by the row's distance from the bottom of its
+// CTB.
 ghost use mathlib.Core.Path.{_≡_};
 ghost use Prim.Native.Nat.{_-_, _*_, _/_, _%_, _≤_, _<_};
 ghost use Rattle.alf_spec.specs.Chroma.{chromaRows};

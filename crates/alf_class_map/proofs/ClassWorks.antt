@@ -1,4 +1,5 @@
--- What the functions from a piece to the whole map are given: it goes by the lengths of lists, and an accepted input has it. Assumes nothing.
+-- What the functions from a piece to the whole map are given: it goes by the lengths of lists, and an accepted input has it. Assumes
+-- nothing.
 use mathlib.Core.Path.{_≡_, refl}
 use mathlib.Core.Bool.{true}
 use mathlib.Core.List.{List}
@@ -27,13 +28,16 @@ use Rattle.alf_class_map.specs.Work.{ClassWork}
 use Rattle.alf_classify.proofs.PieceRows.{blocks}
 
 -- lists of the same lengths
-pub work-same : {p : Picture} {g : Grid} {luma : List ℕ} {copy copy′ differences differences′ map map′ : ℕ} → ClassWork p g luma copy differences map
+pub work-same : {p : Picture} {g : Grid} {luma : List ℕ} {copy copy′ differences differences′ map map′ : ℕ}
+    → ClassWork p g luma copy differences map
     → copy′ ≡ copy → differences′ ≡ differences → map′ ≡ map → ClassWork p g luma copy′ differences′ map′
 work-same w e f h = rw (e, f, h) w
 
 -- the picture's own map has room for a piece of it
-pub own-map : {p : Picture} {g : Grid} {luma : List ℕ} {copy differences map : ℕ} {columns rows : Piece} → ClassWork p g luma copy differences map
-    → BlockPiece (p .width) columns → BlockPiece (p .height) rows → MapRoom columns rows (p .width / 4) (columns .start / 4) (rows .start / 4) map
+pub own-map : {p : Picture} {g : Grid} {luma : List ℕ} {copy differences map : ℕ} {columns rows : Piece}
+    → ClassWork p g luma copy differences map
+    → BlockPiece (p .width) columns → BlockPiece (p .height) rows → MapRoom columns rows (p .width / 4) (columns .start / 4)
+    (rows .start / 4) map
 own-map {p} work across down =
     let r = work .rooms in
     let a = blocks across in
@@ -57,7 +61,8 @@ module _ (l : Layout) (luma : List ℕ) (n : ℕ) (ok : fault classes (classesIn
   pub map-length : n ≡ planeLength (classPlane l)
   map-length = output-length classes (classesInput l luma n) ok
 
-  module _ {g : Grid} (grid : GridOf (l .picture) g) {copy differences : ℕ} (copyRoom : area ≤ copy) (differenceRoom : 4 * area ≤ differences) where
+  module _ {g : Grid} (grid : GridOf (l .picture) g) {copy differences : ℕ} (copyRoom : area ≤ copy)
+      (differenceRoom : 4 * area ≤ differences) where
     class-work : ClassWork (l .picture) g luma copy differences n
     unfolding planeOf
     class-work = record {
@@ -85,7 +90,8 @@ module _ (l : Layout) (luma : List ℕ) (n : ℕ) (ok : fault classes (classesIn
         (class-work, lists .0, lists .1, begins .0, begins .1)
 
 -- one CTB more is classified
-pub next-classified : (l : Layout) (luma : List ℕ) (k : ℕ) {map₀ map done : List ℕ} → Paint map₀ (beforeCtb l (classPlane l) k) (classAt l luma) map
+pub next-classified : (l : Layout) (luma : List ℕ) (k : ℕ) {map₀ map done : List ℕ}
+    → Paint map₀ (beforeCtb l (classPlane l) k) (classAt l luma) map
     → done ≡ painted map (ofCtb l (classPlane l) k) (classAt l luma) → Paint map₀ (beforeCtb l (classPlane l) (k + 1)) (classAt l luma) done
 next-classified l luma k P e =
     paint-call (ofCtb l (classPlane l) k) (classAt l luma) P e (λ i h t. refl) (λ i h. next-ctb l (classPlane l) k i)

@@ -47,7 +47,8 @@ fn class_piece(
     ensures { λ _. ⌜ ((l : Layout) (c : Ctb) → CtbOf l picture c sides
         → PieceOf (lumaPlane l .columns) (columnSide l c) (c .column) columns → PieceOf (lumaPlane l .rows) (rowSide l c) (c .row) rows
         → now (map .exit) ≡ painted (now (map .entry))
-        (inRect (picture .width / 4) (columns .start / 4) (columns .end / 4) (rows .start / 4) (rows .end / 4)) (classAt l (now (luma .entry)))) ⌝ }
+        (inRect (picture .width / 4) (columns .start / 4) (columns .end / 4) (rows .start / 4) (rows .end / 4))
+        (classAt l (now (luma .entry)))) ⌝ }
 {
     copy_piece(luma, picture.width as usize, columns, rows, sides, copy);
     piece_classes(
@@ -166,7 +167,8 @@ fn class_address(
     differences: &mut [u16],
     map: &mut [u8],
 )
-    requires { ⌜ (GridOf picture grid) × (k < grid .columns * grid .rows) × (area ≤ length (now copy)) × (4 * area ≤ length (now differences))
+    requires { ⌜ (GridOf picture grid) × (k < grid .columns * grid .rows) × (area ≤ length (now copy))
+        × (4 * area ≤ length (now differences))
         × (fault classes (classesInput (layoutOf picture (now «virtual_columns») (now «virtual_rows») (now «tile_columns») (now «tile_rows»)
         (now «slice_map») (now «subpic_map») (now «subpic_across»)) (now luma) (length (now map))) ≡ 0) ⌝ }
     ensures { λ _. ⌜ (let l = layoutOf picture (now («virtual_columns» .entry)) (now («virtual_rows» .entry)) (now («tile_columns» .entry))
@@ -214,7 +216,8 @@ pub fn class_map(
     luma: &[u16],
     map: &mut [u8],
 )
-    requires { ⌜ fault classes (classesInput (layoutOf picture (now «virtual_columns») (now «virtual_rows») (now «tile_columns») (now «tile_rows»)
+    requires { ⌜ fault classes (classesInput (layoutOf picture (now «virtual_columns») (now «virtual_rows») (now «tile_columns»)
+        (now «tile_rows»)
         (now «slice_map») (now «subpic_map») (now «subpic_across»)) (now luma) (length (now map))) ≡ 0 ⌝ }
     ensures { λ _. ⌜ now (map .exit) ≡ classMap (layoutOf picture (now («virtual_columns» .entry)) (now («virtual_rows» .entry))
         (now («tile_columns» .entry)) (now («tile_rows» .entry)) (now («slice_map» .entry)) (now («subpic_map» .entry))

@@ -12,7 +12,8 @@ use Rattle.alf_lists.specs.Regions.{between}
 use Rattle.alf_pieces.specs.Copies.{area}
 use Rattle.alf_lists.proofs.Painted.{Paint, paint-in, paint-again}
 use Rattle.alf_lists.proofs.Regions.{in-run}
-use Rattle.alf_classify.specs.Windows.{pairAt, columnSum, blockSum, SmallRun, columnFrom, pairAdded, fourColumns, columnSums, blockSums}
+use Rattle.alf_classify.specs.Windows.{pairAt, columnSum, blockSum, SmallRun, columnFrom, pairAdded, fourColumns, columnSums}
+use Rattle.alf_classify.specs.Windows.{blockSums}
 
 module _ (d : List ℕ) (pitch k : ℕ) where
   pub three-pairs : columnSum d pitch 3 k ≡ pairAt d pitch k + pairAt d pitch (k + 2 * pitch) + pairAt d pitch (k + 4 * pitch)
@@ -42,7 +43,8 @@ module _ (d : List ℕ) (pitch k : ℕ) where
   unfolding columnSum sumBelow
   fourth-pair = let six : k + 3 * (2 * pitch) ≡ k + 6 * pitch = omega arith in simp six
 
-pub four-columns : (sums : List ℕ) (at : ℕ) → fourColumns sums at ≡ getD sums at 0 + getD sums (at + 2) 0 + getD sums (at + 4) 0 + getD sums (at + 6) 0
+pub four-columns : (sums : List ℕ) (at : ℕ) → fourColumns sums at ≡ getD sums at 0 + getD sums (at + 2) 0 + getD sums
+    (at + 4) 0 + getD sums (at + 6) 0
 unfolding fourColumns sumBelow
 four-columns sums at = simp (add-zero, zero-add)
 
@@ -75,7 +77,8 @@ module _ (d : List ℕ) (pitch pairs n m : ℕ) (inside : m + 6 < n) where
 
   pub sums-of-block : (from : ℕ) {zs v h d0 d1 : List ℕ} → n ≤ length zs
       → Paint zs (between 0 n) (columnFrom d pitch pairs from) v → Paint zs (between 0 n) (columnFrom d pitch pairs (area + from)) h
-      → Paint zs (between 0 n) (columnFrom d pitch pairs (2 * area + from)) d0 → Paint zs (between 0 n) (columnFrom d pitch pairs (3 * area + from)) d1
+      → Paint zs (between 0 n) (columnFrom d pitch pairs (2 * area + from)) d0
+      → Paint zs (between 0 n) (columnFrom d pitch pairs (3 * area + from)) d1
       → columnSums v h d0 d1 m ≡ blockSums d pitch pairs (from + m)
   unfolding columnSums blockSums
   sums-of-block from room P Q R S =

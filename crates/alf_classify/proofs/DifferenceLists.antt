@@ -52,7 +52,8 @@ module _ (copy : List ℕ) (pitch n : ℕ) {xs v h d0 d1 : List ℕ} (small : n 
         two-kept k (omega arith) ∙ kept copy n (pitch + 1) 1 area b k (omega arith) (omega (arith, lengths))
         ∙ rw zero-add at (written copy n (pitch + 1) pitch 0 a k low high (omega arith));
     h = λ k low high. two-kept (area + k) (omega arith) ∙ written copy n (pitch + 1) 1 area b k low high (omega (arith, lengths));
-    d0 = λ k low high. last-kept (2 * area + k) (omega arith) ∙ written copy n (pitch + 1) (pitch + 1) (2 * area) c k low high (omega (arith, lengths));
+    d0 = λ k low high. last-kept (2 * area + k) (omega arith) ∙ written copy n (pitch + 1) (pitch + 1) (2 * area) c k low high
+        (omega (arith, lengths));
     d1 = λ k low high. written copy n (pitch + 1) (pitch - 1) (3 * area) d k low high (omega (arith, lengths));
   }
 
@@ -66,14 +67,17 @@ module _ (copy : List ℕ) (pitch n : ℕ) (samples : (k : ℕ) → k < n → ge
       omega (arith, samples k (omega arith), samples (k - step) (omega arith), samples (k + step) (omega arith))
 
   -- in one direction, whose differences stand from place `at` of the list on
-  small-run : (d : List ℕ) (step at from m reach : ℕ) → ((k : ℕ) → pitch + 1 ≤ k → k + (pitch + 1) < n → getD d (at + k) 0 ≡ differenceAt copy step k)
+  small-run : (d : List ℕ) (step at from m reach : ℕ)
+      → ((k : ℕ) → pitch + 1 ≤ k → k + (pitch + 1) < n → getD d (at + k) 0 ≡ differenceAt copy step k)
       → step ≤ pitch + 1 → pitch + 1 ≤ from → from + m + reach + (pitch + 1) ≤ n → SmallRun d (at + from) (at + from + m + reach)
   small-run d step at from m reach e h low high k l u =
       let here : at + (k - at) ≡ k = omega arith in
-      let small : getD d (at + (k - at)) 0 ≤ 8190 = rw (e (k - at) (omega arith) (omega arith)) (difference-small step (k - at) h (omega arith)) in
+      let small : getD d (at + (k - at)) 0 ≤ 8190 =
+      rw (e (k - at) (omega arith) (omega arith)) (difference-small step (k - at) h (omega arith)) in
       rw here at small
 
-  pub small-runs : (d : List ℕ) (from m reach : ℕ) → Differences copy pitch n d → 1 ≤ pitch → pitch + 1 ≤ from → from + m + reach + (pitch + 1) ≤ n
+  pub small-runs : (d : List ℕ) (from m reach : ℕ) → Differences copy pitch n d → 1 ≤ pitch → pitch + 1 ≤ from
+      → from + m + reach + (pitch + 1) ≤ n
       → SmallRuns d from m reach
   small-runs d from m reach D wide low high = (
     rw zero-add at (small-run d pitch 0 from m reach (λ k l u. rw zero-add (D .v k l u)) (omega arith) low high),

@@ -38,7 +38,8 @@ block-in : {n : ℕ} {p : Piece} → BlockPiece n p → (b : ℕ) → p .start /
 block-in B b low high = omega (arith, B .start4, B .end4)
 
 module _ {l : Layout} {p : Picture} {c : Ctb} {s : Sides} (ctb : CtbOf l p c s) {g : Grid} (grid : GridOf p g) {columns rows : Piece}
-    (across : PieceOf (lumaPlane l .columns) (columnSide l c) (c .column) columns) (down : PieceOf (lumaPlane l .rows) (rowSide l c) (c .row) rows)
+    (across : PieceOf (lumaPlane l .columns) (columnSide l c) (c .column) columns)
+    (down : PieceOf (lumaPlane l .rows) (rowSide l c) (c .row) rows)
     (luma copy copy0 : List ℕ)
     (copies : copy ≡ painted copy0 (between 0 (copyLength columns rows)) (copyAt columns rows s luma (p .width)))
     (room : copyLength columns rows ≤ length copy0) where
@@ -52,7 +53,8 @@ module _ {l : Layout} {p : Picture} {c : Ctb} {s : Sides} (ctb : CtbOf l p c s) 
     unfolding planeOf
     window-at k h =
         let width : l .picture .width / 1 ≡ p .width = rw (ctb .picture) (omega arith) in
-        copy-holds ctb 1 1 4 whole whole walk-luma across down luma copy copy0 width copies room x y _ _ (x - columns .start + k % 10) (y - rows .start + k / 10)
+        copy-holds ctb 1 1 4 whole whole walk-luma across down luma copy copy0 width copies room x y _ _ (x - columns .start + k % 10)
+        (y - rows .start + k / 10)
         (window-in (lumaPlane l .columns) columns x (k % 10) refl left right x4 (omega arith))
         (window-in (lumaPlane l .rows) rows y (k / 10) refl top bottom y4 (omega arith)) (omega arith) (omega arith)
         (omega (arith, column-facts ctb 1 1 4 whole across .end4)) (omega (arith, row-facts ctb 1 1 4 whole walk-luma down .end4))
@@ -63,7 +65,8 @@ module _ {l : Layout} {p : Picture} {c : Ctb} {s : Sides} (ctb : CtbOf l p c s) 
 
     -- its class
     pub block-class : blockClass l luma x y
-        ≡ classOf (p .«bit_depth») (rowWindow (p .height) (g .ctb) y) (copyWindow copy (pitch columns) (x - columns .start) (y - rows .start))
+        ≡ classOf (p .«bit_depth») (rowWindow (p .height) (g .ctb) y)
+        (copyWindow copy (pitch columns) (x - columns .start) (y - rows .start))
     unfolding planeOf blockClass lineRule
     block-class =
         rw (grid .ctb, ← (ctb .picture))

@@ -80,7 +80,8 @@ module _ (p : Picture) (ctb : ℕ) (rows : Piece) (copy d : List ℕ) {pitch cou
     bounds : RowBounds window
     bounds = rw w (row-bounds _ ctb (y % ctb))
 
-    all-inside : (pitch + 1 ≤ from) × (from + (4 * count + 3) + (window .count / 2 * (2 * pitch) + 1 - pitch) + (pitch + 1) ≤ (extent rows + 6) * pitch)
+    all-inside : (pitch + 1 ≤ from) × (from + (4 * count + 3) + (window .count / 2 * (2 * pitch) + 1 - pitch) + (pitch + 1) ≤
+        (extent rows + 6) * pitch)
     all-inside =
         let b = bounds in
         let h = row-fits (4 * row) (window .first) (window .count / 2) pitch count (b .0, b .1, b .2, P .pitchIs) in

@@ -1,4 +1,5 @@
--- The sums over a block's class window, as `alf_spec` has them, are those by pairs of rows over the differences of the copy. Assumes nothing.
+-- The sums over a block's class window, as `alf_spec` has them, are those by pairs of rows over the differences of the copy. Assumes
+-- nothing.
 use mathlib.Core.Path.{_≡_, sym, _∙_, ap, ap₂}
 use mathlib.Core.Bool.{Bool, _&&_}
 use mathlib.Core.List.{List}
@@ -38,7 +39,8 @@ cells f first pairs = sumBelow 4 (λ i. sumBelow pairs (λ u. f (1 + 2 * i) (fir
 
 by-cells : (f : ℕ → ℕ → ℕ) (line : Bool) (ctb y : ℕ) → let r = windowRows line ctb y in windowSum r f ≡ cells f (r .first) (r .count / 2)
 unfolding windowSum sumBelow cells
-by-cells f line ctb y = rows-either (λ r. windowSum r f ≡ cells f (r .first) (r .count / 2)) (omega arith) (omega arith) (omega arith) line ctb y
+by-cells f line ctb y = rows-either (λ r. windowSum r f ≡ cells f (r .first) (r .count / 2)) (omega arith) (omega arith)
+    (omega arith) line ctb y
 
 -- ---- the differences at the window's samples
 
@@ -60,7 +62,8 @@ module _ (copy : List ℕ) (pitch s t : ℕ) where
   -- a sample between two others
   difference-at : (step i j a b c d : ℕ) → (i < 10) × (j < 10) × (a < 10) × (b < 10) × (c < 10) × (d < 10)
       → place a b ≡ place i j - step → place c d ≡ place i j + step
-      → distance (2 * getD window (10 * j + i) 0) (getD window (10 * b + a) 0 + getD window (10 * d + c) 0) ≡ differenceAt copy step (place i j)
+      → distance (2 * getD window (10 * j + i) 0) (getD window (10 * b + a) 0 + getD window (10 * d + c) 0)
+      ≡ differenceAt copy step (place i j)
   unfolding differenceAt
   difference-at step i j a b c d h before after =
       rw (window-at i j (h .0) (h .1), window-at a b (h .2) (h .3), window-at c d (h .4) (h .5), before, after)
@@ -81,11 +84,13 @@ module _ (copy : List ℕ) (pitch s t : ℕ) where
 
     filt-d0 : filtD0 window i j ≡ differenceAt copy (pitch + 1) (place i j)
     unfolding filtD0
-    filt-d0 = let e = row-above j (h .2) in difference-at (pitch + 1) i j (i - 1) (j - 1) (i + 1) (j + 1) (omega arith) (omega arith) (omega arith)
+    filt-d0 = let e = row-above j (h .2) in difference-at (pitch + 1) i j (i - 1) (j - 1) (i + 1) (j + 1) (omega arith)
+        (omega arith) (omega arith)
 
     filt-d1 : filtD1 window i j ≡ differenceAt copy (pitch - 1) (place i j)
     unfolding filtD1
-    filt-d1 = let e = row-above j (h .2) in difference-at (pitch - 1) i j (i + 1) (j - 1) (i - 1) (j + 1) (omega arith) (omega arith) (omega arith)
+    filt-d1 = let e = row-above j (h .2) in difference-at (pitch - 1) i j (i + 1) (j - 1) (i - 1) (j + 1) (omega arith)
+        (omega arith) (omega arith)
 
   -- ---- the sums
 
@@ -127,7 +132,8 @@ module _ (copy : List ℕ) (pitch s t : ℕ) where
       window-sums =
           let wide : 1 ≤ pitch = omega arith in
           rw (
-            rw zero-add at (one-sum (filtV window) 0 (λ i j h. let k = inside i j h in filt-v i j h wide ∙ rw zero-add (sym (D .v _ (k .0) (k .1))))),
+            rw zero-add at (one-sum (filtV window) 0 (λ i j h. let k = inside i j h in filt-v i j h wide
+                ∙ rw zero-add (sym (D .v _ (k .0) (k .1))))),
             one-sum (filtH window) area (λ i j h. let k = inside i j h in filt-h i j h wide ∙ sym (D .h _ (k .0) (k .1))),
             one-sum (filtD0 window) (2 * area) (λ i j h. let k = inside i j h in filt-d0 i j h wide ∙ sym (D .d0 _ (k .0) (k .1))),
             one-sum (filtD1 window) (3 * area) (λ i j h. let k = inside i j h in filt-d1 i j h wide ∙ sym (D .d1 _ (k .0) (k .1))),

@@ -1,5 +1,5 @@
--- The class window of a block in the copy of a piece, and its sums by pairs of rows. `proofs/WindowSums` shows them to be those of `alf_spec`.
--- Assumes nothing.
+-- The class window of a block in the copy of a piece, and its sums by pairs of rows. `proofs/WindowSums` shows them to be those of
+-- `alf_spec`. Assumes nothing.
 use mathlib.Core.Path.{_≡_}
 use mathlib.Core.List.{List}
 use Prim.Native.Nat.{ℕ, _+_, _-_, _*_, _/_, _%_, _≤_, _<_}
@@ -12,8 +12,8 @@ use Rattle.alf_spec.specs.Classes.{classOfSums}
 use Rattle.alf_spec.specs.Process.{classNumber}
 use Rattle.alf_pieces.specs.Copies.{area}
 
--- the window of the block whose first sample is at column s and row t of a piece, in the piece's copy, of which a row has `pitch` samples: entry
--- 10 j + i stands at the offsets i − 3 and j − 3, as in `classWindow`
+-- the window of the block whose first sample is at column s and row t of a piece, in the piece's copy, of which a row has `pitch` samples:
+-- entry 10 j + i stands at the offsets i − 3 and j − 3, as in `classWindow`
 unfoldable pub copyWindow : List ℕ → ℕ → ℕ → ℕ → List ℕ
 copyWindow copy pitch s t = tabulate 100 (λ k. getD copy ((t + k / 10) * pitch + (s + k % 10)) 0)
 
@@ -57,7 +57,8 @@ SmallRun d from to = (k : ℕ) → from ≤ k → k < to → getD d k 0 ≤ 8190
 -- in each direction, n + reach entries from place `from` on
 abbrev pub SmallRuns : List ℕ → ℕ → ℕ → ℕ → Type 0
 SmallRuns d from n reach =
-    SmallRun d from (from + n + reach) × SmallRun d (area + from) (area + from + n + reach) × SmallRun d (2 * area + from) (2 * area + from + n + reach)
+    SmallRun d from (from + n + reach) × SmallRun d (area + from) (area + from + n + reach)
+    × SmallRun d (2 * area + from) (2 * area + from + n + reach)
     × SmallRun d (3 * area + from) (3 * area + from + n + reach)
 
 -- the sum of the x-th column from place `from` on

@@ -25,8 +25,8 @@ pub record Rooms (p : Picture) (g : Grid) (copy differences : ℕ) : Type 0 wher
   pub copyRoom : area ≤ copy
   pub differenceRoom : 4 * area ≤ differences
 
--- a map of so many entries, whose rows have mapColumns blocks, has room for the blocks of a piece, the first of them at column `left` and row `top`.
--- The bounds of 1024 blocks, which every picture keeps, let places be added and multiplied.
+-- a map of so many entries, whose rows have mapColumns blocks, has room for the blocks of a piece, the first of them at column `left` and
+-- row `top`. The bounds of 1024 blocks, which every picture keeps, let places be added and multiplied.
 pub record MapRoom (columns rows : Piece) (mapColumns left top map : ℕ) : Type 0 where
   pub narrow : mapColumns ≤ 1024
   pub short : top + extent rows / 4 ≤ 1024

@@ -24,7 +24,8 @@ use alf_spec::Picture;
 use alf_spec::Sums;
 use alf_spec::WindowRows;
 
-// The windows of a row of 32 blocks have so many columns: each begins 4 after the one before, and the last column that counts is its seventh.
+// The windows of a row of 32 blocks have so many columns: each begins 4 after the one before, and the last column that counts is its
+// seventh.
 const COLUMNS: usize = 131;
 
 // The class number of a block, from the sums of columns; those of its window begin at place `at`.
@@ -39,7 +40,8 @@ fn block_class(
 ) -> u8
     requires { ⌜ (at + 6 < length (now v)) × (at + 6 < length (now h)) × (at + 6 < length (now d0)) × (at + 6 < length (now d1))
         × (factor ≤ 3) × (8 ≤ depth) × (depth ≤ 12) ⌝ }
-    ensures { λ r. ⌜ r ≡ classNumber (classOfSums depth factor (columnSums (now (v .entry)) (now (h .entry)) (now (d0 .entry)) (now (d1 .entry)) at)) ⌝ }
+    ensures { λ r. ⌜ r ≡ classNumber (classOfSums depth factor (columnSums (now (v .entry)) (now (h .entry)) (now (d0 .entry))
+        (now (d1 .entry)) at)) ⌝ }
 {
     let sums = Sums {
         v: block_sum(v, at),
@@ -63,7 +65,8 @@ fn class_run(
     map: &mut [u8],
     at: usize,
 )
-    requires { ⌜ (4 * count + 2 < length (now v)) × (4 * count + 2 < length (now h)) × (4 * count + 2 < length (now d0)) × (4 * count + 2 < length (now d1))
+    requires { ⌜ (4 * count + 2 < length (now v)) × (4 * count + 2 < length (now h)) × (4 * count + 2 < length (now d0))
+        × (4 * count + 2 < length (now d1))
         × (factor ≤ 3) × (8 ≤ depth) × (depth ≤ 12) × (at + count ≤ length (now map)) ⌝ }
     ensures { λ _. ⌜ now (map .exit) ≡ painted (now (map .entry)) (between at count)
         (columnClass (now (v .entry)) (now (h .entry)) (now (d0 .entry)) (now (d1 .entry)) factor depth at) ⌝ }
@@ -86,7 +89,8 @@ fn class_row(
     map: &mut [u8],
     at: usize,
 )
-    requires { ⌜ (count ≤ 32) × (1 ≤ pitch) × (3 ≤ window .count / 2) × (window .count / 2 ≤ 4) × (window .factor ≤ 3) × (8 ≤ depth) × (depth ≤ 12)
+    requires { ⌜ (count ≤ 32) × (1 ≤ pitch) × (3 ≤ window .count / 2) × (window .count / 2 ≤ 4) × (window .factor ≤ 3)
+        × (8 ≤ depth) × (depth ≤ 12)
         × (at + count ≤ length (now map))
         × (3 * area + from + (4 * count + 3) + (window .count / 2 * (2 * pitch) + 1 - pitch) ≤ length (now differences))
         × (SmallRuns (now differences) from (4 * count + 3) (window .count / 2 * (2 * pitch) + 1 - pitch)) ⌝ }
@@ -130,8 +134,8 @@ fn map_place(map_columns: usize, left: usize, top: usize, row: u32) -> usize
     (top + row as usize) * map_columns + left
 }
 
-// The classes of the blocks of a piece, from its copy. They go to a map whose rows have `map_columns` blocks, that of the picture or one of the
-// caller's own; the piece's first block stands at its column `left` and row `top`.
+// The classes of the blocks of a piece, from its copy. They go to a map whose rows have `map_columns` blocks, that of the picture or one of
+// the caller's own; the piece's first block stands at its column `left` and row `top`.
 pub fn piece_classes(
     picture: Picture,
     grid: Grid,

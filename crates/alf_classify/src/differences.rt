@@ -20,8 +20,8 @@ fn difference(copy: &[u16], k: usize, step: usize) -> u16
     second_difference(copy[k], copy[k - step], copy[k + step])
 }
 
-// In one direction, of the first n samples but for `margin` of them at each end. One run over all rows: a difference that spans the ends of two
-// rows is never summed.
+// In one direction, of the first n samples but for `margin` of them at each end. One run over all rows: a difference that spans the ends of
+// two rows is never summed.
 fn second_differences(
     copy: &[u16],
     n: usize,

@@ -1,4 +1,5 @@
-// The sums of second differences over the windows of a row of blocks: first over the window's rows, for each column once, then over its columns.
+// The sums of second differences over the windows of a row of blocks: first over the window's rows, for each column once, then over its
+// columns.
 ghost use mathlib.Core.Path.{_≡_};
 ghost use Prim.Native.Nat.{ℕ, _+_, _-_, _*_, _^_, _≤_, _<_};
 ghost use lib.ListN.{length, getD};
@@ -6,7 +7,8 @@ ghost use Rattle.alf_spec.specs.Lists.{painted};
 ghost use Rattle.alf_lists.specs.Regions.{between};
 ghost use Rattle.alf_classify.specs.Windows.{pairAt, columnSum, SmallRun, columnFrom, pairAdded, fourColumns};
 
-// At an even column, the two samples of a 2 by 2 cell that count: those whose offsets are both even, and both odd. At an odd column it is of no use.
+// At an even column, the two samples of a 2 by 2 cell that count: those whose offsets are both even, and both odd. At an odd column it is
+// of no use.
 fn pair(d: &[u16], k: usize, pitch: usize) -> u16
     requires { ⌜ (k + (pitch + 1) < length (now d)) × (SmallRun (now d) k (k + (pitch + 2))) ⌝ }
     ensures { λ r. ⌜ (r ≡ pairAt (now (d .entry)) pitch k) × (r ≤ 16380) ⌝ }
@@ -24,7 +26,8 @@ fn three_pairs(d: &[u16], k: usize, pitch: usize) -> u16
 
 // The same of n columns, one after the other.
 fn sum_three_pairs(d: &[u16], from: usize, pitch: usize, n: usize, sums: &mut [u16])
-    requires { ⌜ (n ≤ length (now sums)) × (from + n + (5 * pitch + 1) ≤ length (now d)) × (SmallRun (now d) from (from + n + (5 * pitch + 1))) ⌝ }
+    requires { ⌜ (n ≤ length (now sums)) × (from + n + (5 * pitch + 1) ≤ length (now d))
+        × (SmallRun (now d) from (from + n + (5 * pitch + 1))) ⌝ }
     ensures { λ _. ⌜ now (sums .exit) ≡ painted (now (sums .entry)) (between 0 n) (columnFrom (now (d .entry)) pitch 3 from) ⌝ }
 {
     let mut x = 0;
@@ -38,7 +41,8 @@ fn sum_three_pairs(d: &[u16], from: usize, pitch: usize, n: usize, sums: &mut [u
 fn add_pair(d: &[u16], from: usize, pitch: usize, n: usize, sums: &mut [u16])
     requires { ⌜ (n ≤ length (now sums)) × (from + n + (pitch + 1) ≤ length (now d)) × (SmallRun (now d) from (from + n + (pitch + 1)))
         × ((x : ℕ) → x < n → getD (now sums) x 0 ≤ 49140) ⌝ }
-    ensures { λ _. ⌜ now (sums .exit) ≡ painted (now (sums .entry)) (between 0 n) (pairAdded (now (sums .entry)) (now (d .entry)) pitch from) ⌝ }
+    ensures { λ _. ⌜ now (sums .exit) ≡ painted (now (sums .entry)) (between 0 n)
+        (pairAdded (now (sums .entry)) (now (d .entry)) pitch from) ⌝ }
 {
     let mut x = 0;
     while x < n {
@@ -56,7 +60,8 @@ pub(crate) fn column_sums(
     n: usize,
     sums: &mut [u16],
 )
-    requires { ⌜ (3 ≤ pairs) × (pairs ≤ 4) × (1 ≤ pitch) × (n ≤ length (now sums)) × (from + n + (pairs * (2 * pitch) + 1 - pitch) ≤ length (now d))
+    requires { ⌜ (3 ≤ pairs) × (pairs ≤ 4) × (1 ≤ pitch) × (n ≤ length (now sums))
+        × (from + n + (pairs * (2 * pitch) + 1 - pitch) ≤ length (now d))
         × (SmallRun (now d) from (from + n + (pairs * (2 * pitch) + 1 - pitch))) ⌝ }
     ensures { λ _. ⌜ now (sums .exit) ≡ painted (now (sums .entry)) (between 0 n) (columnFrom (now (d .entry)) pitch pairs from) ⌝ }
 {

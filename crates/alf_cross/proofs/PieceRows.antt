@@ -60,7 +60,8 @@ near line d = pick (line && (eqb d 5 || eqb d 4)) (line && (eqb d 6 || eqb d 3))
     pick false false = omega arith
 
 -- they lie in the copy, which has so many rows, where the sample is in row j
-pub row-reads : {split : List ℕ} {r : CrossRows} (j pitch rows end : ℕ) → Near r → SmallCopy split (rows * pitch) → j + 2 < rows → end < pitch
+pub row-reads : {split : List ℕ} {r : CrossRows} (j pitch rows end : ℕ) → Near r → SmallCopy split (rows * pitch)
+    → j + 2 < rows → end < pitch
     → RowReads split pitch j r end
 row-reads {r = r} j pitch rows end near held inside within =
     let up : (j - r .y1) * pitch ≤ (j + r .y2) * pitch = mul-le-mul-right pitch (omega arith) in
@@ -119,7 +120,10 @@ module _ (p : Picture) {columns rows : Piece} (across : BlockPiece (p .width) co
     (low : rows .start / subHeight p ≤ v) (high : v < rows .end / subHeight p) where
   -- its luma row lies in the piece
   pub luma-row : (rows .start ≤ v * subHeight p) × (v * subHeight p < rows .end)
-  luma-row = (le-own (subHeight p) (chroma-ratios p .1) (rows .start) v (omega (arith, down .start4)) low, lt-own (subHeight p) (rows .end) v high)
+  luma-row = (
+    le-own (subHeight p) (chroma-ratios p .1) (rows .start) v (omega (arith, down .start4)) low,
+    lt-own (subHeight p) (rows .end) v high,
+  )
 
   -- its samples have a place in the plane
   pub row-fits : v * (p .width / subWidth p) + columns .start / subWidth p + extent columns / subWidth p
@@ -132,7 +136,8 @@ module _ (p : Picture) {columns rows : Piece} (across : BlockPiece (p .width) co
       omega (arith, c .last, c .upto)
 
   -- and are those of the split copy
-  pub row-value : (ctb : ℕ) (filters : List ℤ) (split chroma : List ℕ) (r : CrossRows) → r ≡ rowOffsets (p .height) ctb (v * subHeight p) → (k : ℕ)
+  pub row-value : (ctb : ℕ) (filters : List ℤ) (split chroma : List ℕ) (r : CrossRows)
+      → r ≡ rowOffsets (p .height) ctb (v * subHeight p) → (k : ℕ)
       → let from = v * (p .width / subWidth p) + columns .start / subWidth p in
       between from (extent columns / subWidth p) k ≡ true
       → offsetSample split (pitch columns) (v * subHeight p - rows .start + 3) r (subWidth p) filters (p .«bit_depth») chroma from k
@@ -144,6 +149,7 @@ module _ (p : Picture) {columns rows : Piece} (across : BlockPiece (p .width) co
       let f = run-facts from (extent columns / subWidth p) k t in
       let e = row-of (p .width / subWidth p) v k (omega arith) (omega (arith, c .last, c .upto)) in
       let x : k % (p .width / subWidth p) ≡ columns .start / subWidth p + (k - from) = omega arith in
-      let column : (columns .start / subWidth p + (k - from)) * subWidth p - columns .start + 3 ≡ subWidth p * (k - from) + 3 = omega (arith, c .start) in
+      let column : (columns .start / subWidth p + (k - from)) * subWidth p - columns .start + 3 ≡ subWidth p * (k - from) + 3 =
+      omega (arith, c .start) in
       rw (e .0, ← is, x, column) (ap (corrected (p .«bit_depth») (getD chroma k 0))
       (sum-same split columns (subWidth p) (chroma-ratios p .0) r (v * subHeight p - rows .start + 3) (k - from) filters))

@@ -40,14 +40,16 @@ use Rattle.alf_cross.proofs.PieceRows.{Near, near}
 -- ---- sums
 
 -- with the same coefficients
-cross-sum-same : (middle : ℕ) (around : List ℕ) (f g : ℕ → ℤ) → ((j : ℕ) → j < 7 → f j ≡ g j) → crossSum middle f around ≡ crossSum middle g around
+cross-sum-same : (middle : ℕ) (around : List ℕ) (f g : ℕ → ℤ) → ((j : ℕ) → j < 7 → f j ≡ g j)
+    → crossSum middle f around ≡ crossSum middle g around
 unfolding crossSum
 cross-sum-same middle around f g e = sum-sameℤ 7 _ _ (λ j h. ap (λ (c : ℤ). c *ℤ (pos (getD around j 0) -ℤ pos middle)) (e j h))
 
 -- ---- Table 47 in the luma plane
 
 offsets-same : (l : Layout) (y : ℕ)
-    → crossRows (lineRule (lumaPlane l .rows) y) (bottomDistance (lumaPlane l .rows) y) ≡ rowOffsets (l .picture .height) (ctbSize (l .picture)) y
+    → crossRows (lineRule (lumaPlane l .rows) y) (bottomDistance (lumaPlane l .rows) y) ≡ rowOffsets (l .picture .height)
+    (ctbSize (l .picture)) y
 unfolding planeOf lineRule bottomDistance
 offsets-same l y = simp (mul-one, div-one)
 
@@ -61,7 +63,8 @@ module _ {i : Input} {p : Picture} {c : Ctb} {s : Sides} (ctb : CtbOf (i .layout
     (copies : copy ≡ painted copy0 (between 0 (copyLength columns rows)) (copyAt columns rows s luma (p .width)))
     (room : copyLength columns rows ≤ length copy0) (isSplit : Split copy split (pitch columns) (subWidth p) (pitch rows)) where
   -- the sample whose luma position (x, y) lies in column m and row n of the piece
-  module _ (x y m n : ℕ) (column : x ≡ columns .start + m) (row : y ≡ rows .start + n) (right : m < extent columns) (bottom : n < extent rows) where
+  module _ (x y m n : ℕ) (column : x ≡ columns .start + m) (row : y ≡ rows .start + n) (right : m < extent columns)
+      (bottom : n < extent rows) where
     -- its neighbour at (u, v) stands in column a and row b of the copy
     read-same : (u v a b : ℕ) → (x ≤ u + 3) × (u ≤ x + 3) × (y ≤ v + 3) × (v ≤ y + 3)
         → (u ≡ columns .start + a - 3) × (v ≡ rows .start + b - 3) × (a < pitch columns) × (b < pitch rows)
@@ -79,7 +82,8 @@ module _ {i : Input} {p : Picture} {c : Ctb} {s : Sides} (ctb : CtbOf (i .layout
     abbrev reads : ℕ × ℕ → ℕ
     reads q = read (i .layout) (lumaPlane (i .layout)) x y (i .luma) (q .0) (q .1)
 
-    taps-same : (r : CrossRows) → Near r → map reads (crossTaps x y r) ≡ map (splitRead split columns (subWidth (i .layout .picture))) (crossTaps (m + 3) (n + 3) r)
+    taps-same : (r : CrossRows) → Near r → map reads (crossTaps x y r) ≡ map (splitRead split columns (subWidth (i .layout .picture)))
+        (crossTaps (m + 3) (n + 3) r)
     unfolding crossTaps
     taps-same r near =
         let up = near .above in
@@ -97,15 +101,18 @@ module _ {i : Input} {p : Picture} {c : Ctb} {s : Sides} (ctb : CtbOf (i .layout
 
     sums-same : (r : CrossRows) → Near r
         → pieceSum split columns (subWidth (i .layout .picture)) filters r (m + 3) (n + 3)
-        ≡ crossSum (reads (x, y)) (crossCoeff i (crossAps i c component) component (crossIndex i c component - 1)) (map reads (crossTaps x y r))
+        ≡ crossSum (reads (x, y)) (crossCoeff i (crossAps i c component) component (crossIndex i c component - 1))
+        (map reads (crossTaps x y r))
     unfolding pieceSum
     sums-same r near =
         cross-sum-same _ _ _ _ (filter .coefficients)
-        ∙ ap₂ (λ (middle : ℕ) (around : List ℕ). crossSum middle (crossCoeff i (crossAps i c component) component (crossIndex i c component - 1)) around)
+        ∙ ap₂ (λ (middle : ℕ) (around : List ℕ). crossSum middle
+        (crossCoeff i (crossAps i c component) component (crossIndex i c component - 1)) around)
         (sym (read-same x y (m + 3) (n + 3) (omega arith) (omega arith))) (sym (taps-same r near))
 
     -- it is of the CTB c
-    own-ctb : (x′ y′ : ℕ) → x′ * subWidth (i .layout .picture) ≡ x → y′ * subHeight (i .layout .picture) ≡ y → ctbAt (chromaPlane (i .layout)) x′ y′ ≡ c
+    own-ctb : (x′ y′ : ℕ) → x′ * subWidth (i .layout .picture) ≡ x → y′ * subHeight (i .layout .picture) ≡ y
+        → ctbAt (chromaPlane (i .layout)) x′ y′ ≡ c
     unfolding planeOf
     own-ctb x′ y′ ex ey =
         let inColumns = column-facts ctb 1 1 4 whole across in
@@ -128,13 +135,15 @@ module _ {i : Input} {p : Picture} {c : Ctb} {s : Sides} (ctb : CtbOf (i .layout
       let q = l .picture in
       let W = q .width / subWidth q in
       let f : Inside W (columns .start / subWidth q) (columns .end / subWidth q) (rows .start / subHeight q) (rows .end / subHeight q) k =
-      rw (ctb .picture) (rect-facts (p .width / subWidth p) (columns .start / subWidth p) (columns .end / subWidth p) (rows .start / subHeight p)
+      rw (ctb .picture) (rect-facts (p .width / subWidth p) (columns .start / subWidth p) (columns .end / subWidth p)
+      (rows .start / subHeight p)
       (rows .end / subHeight p) k t) in
       let inColumns = column-facts ctb 1 1 4 whole across in
       let inRows = row-facts ctb 1 1 4 whole walk-luma down in
       let x : ℕ = k % W * subWidth q in
       let y : ℕ = k / W * subHeight q in
-      let left : columns .start ≤ x = le-own (subWidth q) (chroma-ratios q .0) (columns .start) (k % W) (omega (arith, inColumns .start4)) (f .0) in
+      let left : columns .start ≤ x = le-own (subWidth q) (chroma-ratios q .0) (columns .start) (k % W)
+      (omega (arith, inColumns .start4)) (f .0) in
       let right : x < columns .end = lt-own (subWidth q) (columns .end) (k % W) (f .1) in
       let top : rows .start ≤ y = le-own (subHeight q) (chroma-ratios q .1) (rows .start) (k / W) (omega (arith, inRows .start4)) (f .2) in
       let bottom : y < rows .end = lt-own (subHeight q) (rows .end) (k / W) (f .3) in

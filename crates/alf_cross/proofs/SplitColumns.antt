@@ -25,7 +25,8 @@ unfolding splitPlace
 odd pitch i = let e : (2 * i + 1) % 2 ≡ 1 = omega arith in rw e (omega arith)
 
 -- in the first half of its row, or in the second
-halves : (pitch c : ℕ) → ((c ≡ 2 * (c / 2)) × (splitPlace pitch 2 c ≡ c / 2)) ⊎ ((c ≡ 2 * (c / 2) + 1) × (splitPlace pitch 2 c ≡ pitch / 2 + c / 2))
+halves : (pitch c : ℕ) → ((c ≡ 2 * (c / 2)) × (splitPlace pitch 2 c ≡ c / 2))
+    ⊎ ((c ≡ 2 * (c / 2) + 1) × (splitPlace pitch 2 c ≡ pitch / 2 + c / 2))
 unfolding splitPlace
 halves pitch c =
     ⊎-elim (λ (h : c % 2 < 1). let e : c % 2 ≡ 0 = omega arith in inl (omega arith, rw e (omega arith)))
@@ -62,7 +63,8 @@ module _ (copy split : List ℕ) (pitch at i : ℕ) (fits : at + pitch ≤ lengt
 
   pub others : (k : ℕ) → k ≢ at + i → k ≢ at + pitch / 2 + i → getD twice k 0 ≡ getD split k 0
   others k n m =
-      getD-set-other once (at + pitch / 2 + i) k (getD copy (at + 2 * i + 1) 0) 0 m ∙ getD-set-other split (at + i) k (getD copy (at + 2 * i) 0) 0 n
+      getD-set-other once (at + pitch / 2 + i) k (getD copy (at + 2 * i + 1) 0) 0 m
+      ∙ getD-set-other split (at + i) k (getD copy (at + 2 * i) 0) 0 n
 
   earlier : (c : ℕ) → c < 2 * i → (at + splitPlace pitch 2 c ≢ at + i) × (at + splitPlace pitch 2 c ≢ at + pitch / 2 + i)
   earlier c h = ⊎-elim (λ e. (λ q. omega arith, λ q. omega arith)) (λ e. (λ q. omega arith, λ q. omega arith)) (halves pitch c)
@@ -86,7 +88,8 @@ module _ (copy split : List ℕ) (pitch at i : ℕ) (fits : at + pitch ≤ lengt
 
 -- ---- a row more
 
-pub rows-more : {copy split next : List ℕ} {pitch j : ℕ} → pitch % 2 ≡ 0 → Split copy split pitch 2 j → SplitRow copy next pitch 2 (j * pitch) pitch
+pub rows-more : {copy split next : List ℕ} {pitch j : ℕ} → pitch % 2 ≡ 0 → Split copy split pitch 2 j
+    → SplitRow copy next pitch 2 (j * pitch) pitch
     → ((k : ℕ) → k < j * pitch → getD next k 0 ≡ getD split k 0) → Split copy next pitch 2 (j + 1)
 rows-more {pitch = pitch} {j = j} wide r s kept = record {
   row = below-more _ j (λ q h.

@@ -1,5 +1,5 @@
--- The copy of a piece with its columns split, and the taps of a sample in it, by the rows and columns that they read. `proofs/PieceSamples` shows
--- them to be those of `alf_spec`. Assumes nothing.
+-- The copy of a piece with its columns split, and the taps of a sample in it, by the rows and columns that they read. `proofs/PieceSamples`
+-- shows them to be those of `alf_spec`. Assumes nothing.
 use mathlib.Core.Path.{_≡_}
 use mathlib.Core.Bool.{cond}
 use mathlib.Core.List.{List, [], _∷_}
@@ -12,8 +12,8 @@ use Rattle.alf_spec.specs.CrossComponent.{crossSum, corrected}
 
 -- ---- the split copy
 
--- where column c of the copy stands in its row of the split copy: where there are 2 columns for each chroma sample, the even ones stand first,
--- then the odd ones, so that a tap of neighbouring samples reads neighbouring places
+-- where column c of the copy stands in its row of the split copy: where there are 2 columns for each chroma sample, the even ones stand
+-- first, then the odd ones, so that a tap of neighbouring samples reads neighbouring places
 unfoldable pub splitPlace : ℕ → ℕ → ℕ → ℕ
 splitPlace pitch step c = cond (eqb step 2) (c % 2 * (pitch / 2) + c / 2) c
 
@@ -31,8 +31,8 @@ pub record Split (copy split : List ℕ) (pitch step rows : ℕ) : Type 0 where
 pub record SmallTaps (f : List ℤ) : Type 0 where
   pub each : (j : ℕ) → natAbs (getD f j (pos 0)) ≤ 128
 
--- four rows of the split copy, of which none begins after the last; that one is read up to `end` past its beginning, and what stands up to there
--- are samples
+-- four rows of the split copy, of which none begins after the last; that one is read up to `end` past its beginning, and what stands up to
+-- there are samples
 pub record Reads (split : List ℕ) (above here below far end : ℕ) : Type 0 where
   pub aboveFirst : above ≤ far
   pub hereFirst : here ≤ far
@@ -44,8 +44,8 @@ pub record Reads (split : List ℕ) (above here below far end : ℕ) : Type 0 wh
 abbrev pub last : ℕ → ℕ → ℕ → ℕ
 last left own right = max left (max own right)
 
--- the rows y1 above a sample, of the sample, y1 below and y2 below it, each by where it begins; in each, the columns left of the samples, their own
--- and right of them, by where they begin
+-- the rows y1 above a sample, of the sample, y1 below and y2 below it, each by where it begins; in each, the columns left of the samples,
+-- their own and right of them, by where they begin
 module _ (split : List ℕ) (above here below far left own right : ℕ) where
   -- what the taps 0 to 6 read, in the order of `crossTaps`, for the sample at place `at` of its row
   unfoldable pub splitTaps : ℕ → List ℕ
@@ -66,7 +66,8 @@ module _ (split : List ℕ) (above here below far left own right : ℕ) where
 
 -- the first seven coefficients
 abbrev pub seven : List ℤ → List ℤ
-seven f = getD f 0 (pos 0) ∷ getD f 1 (pos 0) ∷ getD f 2 (pos 0) ∷ getD f 3 (pos 0) ∷ getD f 4 (pos 0) ∷ getD f 5 (pos 0) ∷ getD f 6 (pos 0) ∷ []
+seven f = getD f 0 (pos 0) ∷ getD f 1 (pos 0) ∷ getD f 2 (pos 0) ∷ getD f 3 (pos 0) ∷ getD f 4 (pos 0) ∷ getD f 5 (pos 0)
+    ∷ getD f 6 (pos 0) ∷ []
 
 -- a sample in row j of the copy, of which a row has `pitch` samples; r says which other rows its taps read
 module _ (split : List ℕ) (pitch j : ℕ) (r : CrossRows) where

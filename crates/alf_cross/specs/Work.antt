@@ -63,8 +63,8 @@ unfoldable pub pieceSum : List ℕ → Piece → ℕ → List ℤ → CrossRows 
 pieceSum split columns step filters r i j =
     crossSum (splitRead split columns step (i, j)) (λ n. getD filters n (pos 0)) (map (splitRead split columns step) (crossTaps i j r))
 
--- the corrected sample at index k of the chroma plane, from the split copy of the piece in which its luma position (x, y) lies; the margin has 3
--- samples
+-- the corrected sample at index k of the chroma plane, from the split copy of the piece in which its luma position (x, y) lies; the margin
+-- has 3 samples
 unfoldable pub splitCrossAt : Picture → ℕ → List ℤ → List ℕ → List ℕ → Piece → Piece → ℕ → ℕ
 splitCrossAt p ctb filters split chroma columns rows k =
     let x = k % (p .width / subWidth p) * subWidth p in

@@ -62,15 +62,17 @@ fn cross_tap(
     column: usize,
     f: i16,
 ) -> i32
-    requires { ⌜ (natAbs sum ≤ 2 ^ 30) × (middle < 4096) × (row + at + column < length (now split)) × (getD (now split) (row + at + column) 0 < 4096)
+    requires { ⌜ (natAbs sum ≤ 2 ^ 30) × (middle < 4096) × (row + at + column < length (now split))
+        × (getD (now split) (row + at + column) 0 < 4096)
         × (natAbs f ≤ 128) ⌝ }
-    ensures { λ r. ⌜ (r ≡ sum +ℤ f *ℤ (pos (getD (now (split .entry)) (row + at + column) 0) -ℤ pos middle)) × (natAbs r ≤ natAbs sum + 128 * 4095) ⌝ }
+    ensures { λ r. ⌜ (r ≡ sum +ℤ f *ℤ (pos (getD (now (split .entry)) (row + at + column) 0) -ℤ pos middle))
+        × (natAbs r ≤ natAbs sum + 128 * 4095) ⌝ }
 {
     sum + f as i32 * (split[row + at + column] as i16 - middle as i16) as i32
 }
 
-// (1533): the taps of the sample at place `at` of its row. The rows begin at `above`, `here`, `below` and `far` of the split copy; in each, the
-// columns left of the samples, their own and right of them begin at `left`, `own` and `right`.
+// (1533): the taps of the sample at place `at` of its row. The rows begin at `above`, `here`, `below` and `far` of the split copy; in each,
+// the columns left of the samples, their own and right of them begin at `left`, `own` and `right`.
 fn cross_sum(
     split: &[u16],
     above: usize,
@@ -89,7 +91,8 @@ fn cross_sum(
     f5: i16,
     f6: i16,
 ) -> i32
-    requires { ⌜ (Reads (now split) above here below far (at + last left own right)) × (SmallTaps (f0 ∷ f1 ∷ f2 ∷ f3 ∷ f4 ∷ f5 ∷ f6 ∷ [])) ⌝ }
+    requires { ⌜ (Reads (now split) above here below far (at + last left own right))
+        × (SmallTaps (f0 ∷ f1 ∷ f2 ∷ f3 ∷ f4 ∷ f5 ∷ f6 ∷ [])) ⌝ }
     ensures { λ r. ⌜ (r ≡ splitSum (now (split .entry)) above here below far left own right (f0 ∷ f1 ∷ f2 ∷ f3 ∷ f4 ∷ f5 ∷ f6 ∷ []) at)
         × (natAbs r ≤ 7 * (128 * 4095)) ⌝ }
 {
@@ -126,7 +129,8 @@ fn cross_at(
 ) -> u16
     requires { ⌜ (Reads (now split) above here below far (at + last left own right)) × (SmallTaps (f0 ∷ f1 ∷ f2 ∷ f3 ∷ f4 ∷ f5 ∷ f6 ∷ []))
         × (curr < 4096) × (1 ≤ depth) × (depth ≤ 12) ⌝ }
-    ensures { λ r. ⌜ r ≡ correctedBy depth curr (splitSum (now (split .entry)) above here below far left own right (f0 ∷ f1 ∷ f2 ∷ f3 ∷ f4 ∷ f5 ∷ f6 ∷ []) at) ⌝ }
+    ensures { λ r. ⌜ r ≡ correctedBy depth curr (splitSum (now (split .entry)) above here below far left own right (f0 ∷ f1 ∷ f2 ∷ f3
+        ∷ f4 ∷ f5 ∷ f6 ∷ []) at) ⌝ }
 {
     let sum = cross_sum(
         split,
@@ -176,7 +180,8 @@ pub(crate) fn cross_row(
         × (1 ≤ depth) × (depth ≤ 12) × ((k : ℕ) → getD (now chroma) k 0 < 4096)
         × (from + n ≤ length (now chroma)) × (from + n ≤ length (now output)) ⌝ }
     ensures { λ _. ⌜ now (output .exit) ≡ painted (now (output .entry)) (between from n)
-        (rowSample (now (split .entry)) above here below far left own right (f0 ∷ f1 ∷ f2 ∷ f3 ∷ f4 ∷ f5 ∷ f6 ∷ []) depth (now (chroma .entry)) from) ⌝ }
+        (rowSample (now (split .entry)) above here below far left own right (f0 ∷ f1 ∷ f2 ∷ f3 ∷ f4 ∷ f5 ∷ f6 ∷ []) depth
+        (now (chroma .entry)) from) ⌝ }
 {
     let mut x: usize = 0;
     while x < n {

@@ -82,7 +82,8 @@ fn piece_rows(
     output: &mut [u16],
 )
     requires { ⌜ (ChromaWork picture grid (now chroma) (now filters) (length (now output)))
-        × (BlockPiece (picture .width) columns) × (BlockPiece (picture .height) rows) × (SmallCopy (now split) (copyLength columns rows)) ⌝ }
+        × (BlockPiece (picture .width) columns) × (BlockPiece (picture .height) rows)
+        × (SmallCopy (now split) (copyLength columns rows)) ⌝ }
     ensures { λ _. ⌜ now (output .exit) ≡ painted (now (output .entry))
         (inRect (picture .width / subWidth picture) (columns .start / subWidth picture) (columns .end / subWidth picture)
         (rows .start / subHeight picture) (rows .end / subHeight picture))
@@ -107,8 +108,8 @@ fn piece_rows(
     }
 }
 
-// The piece's samples: those of every input in which a CTB has these sides, the piece is one of its pieces, and the coefficients are the CTB's. The
-// columns of its copy are split where each chroma sample has two; else neighbours stand side by side already.
+// The piece's samples: those of every input in which a CTB has these sides, the piece is one of its pieces, and the coefficients are the
+// CTB's. The columns of its copy are split where each chroma sample has two; else neighbours stand side by side already.
 pub fn filter_piece(
     picture: Picture,
     grid: Grid,
@@ -122,7 +123,8 @@ pub fn filter_piece(
     split: &mut [u16],
     output: &mut [u16],
 )
-    requires { ⌜ (CrossWork picture grid (now luma) (now chroma) (now filters) (length (now copy)) (length (now split)) (length (now output)))
+    requires { ⌜ (CrossWork picture grid (now luma) (now chroma) (now filters) (length (now copy)) (length (now split))
+        (length (now output)))
         × (BlockPiece (picture .width) columns) × (BlockPiece (picture .height) rows) ⌝ }
     ensures { λ _. ⌜ ((i : Input) (c : Ctb) (component : ℕ) → CtbOf (i .layout) picture c sides
         → i .luma ≡ now (luma .entry) → i .chroma ≡ now (chroma .entry) → CrossFilter i c component (now (filters .entry))

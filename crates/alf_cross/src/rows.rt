@@ -58,7 +58,8 @@ pub(crate) fn offset_row(
     n: usize,
     output: &mut [u16],
 )
-    requires { ⌜ (RowReads (now split) pitch j offsets (n + last (splitPlace pitch step 2) (splitPlace pitch step 3) (splitPlace pitch step 4))) × (pitch ≤ 134)
+    requires { ⌜ (RowReads (now split) pitch j offsets (n + last (splitPlace pitch step 2) (splitPlace pitch step 3)
+        (splitPlace pitch step 4))) × (pitch ≤ 134)
         × (offsets .y1 ≤ j) × (offsets .y1 ≤ offsets .y2) × (j + offsets .y2 ≤ 134)
         × (7 ≤ length (now filters)) × ((i : ℕ) → natAbs (getD (now filters) i (pos 0)) ≤ 128) × (1 ≤ depth) × (depth ≤ 12)
         × ((k : ℕ) → getD (now chroma) k 0 < 4096) × (from + n ≤ length (now chroma)) × (from + n ≤ length (now output)) ⌝ }

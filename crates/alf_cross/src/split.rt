@@ -1,4 +1,5 @@
-// The copy of a piece with its columns split, for planes of half the width: the taps of neighbouring chroma samples then read neighbouring places.
+// The copy of a piece with its columns split, for planes of half the width: the taps of neighbouring chroma samples then read neighbouring
+// places.
 ghost use mathlib.Core.Path.{_≡_};
 ghost use Prim.Native.Nat.{ℕ, _+_, _*_, _%_, _≤_, _<_};
 ghost use lib.ListN.{length, getD};

@@ -32,7 +32,8 @@ use Rattle.alf_ctb.specs.Work.{Given, Rooms, Numbers, PieceFiltered}
 
 -- ---- what they are given
 
-module _ {f : Filter} {p : Picture} {g : Grid} {luma chroma places : List ℕ} (filters : List ℤ) {taps : List ℤ} {copy differences output : ℕ}
+module _ {f : Filter} {p : Picture} {g : Grid} {luma chroma places : List ℕ} (filters : List ℤ) {taps : List ℤ}
+    {copy differences output : ℕ}
     (isGiven : Given f p g luma chroma places) (isNumbers : Numbers f filters) (isRooms : Rooms f p copy differences taps output) where
   pub luma-work : f ≡ Luma → LumaWork p g luma filters places copy differences taps output
   luma-work e =
@@ -119,7 +120,8 @@ scaled-in half b =
 
 -- ---- what they leave
 
-module _ (f : Filter) (p : Picture) (sides : Sides) (columns rows : Piece) (luma chroma : List ℕ) (filters : List ℤ) (old new : List ℕ) where
+module _ (f : Filter) (p : Picture) (sides : Sides) (columns rows : Piece) (luma chroma : List ℕ) (filters : List ℤ)
+    (old new : List ℕ) where
   -- by its name
   abbrev Named : Filter → Type 0
   Named f = PieceFiltered f p sides columns rows luma chroma filters old new
@@ -127,7 +129,8 @@ module _ (f : Filter) (p : Picture) (sides : Sides) (columns rows : Piece) (luma
   pub luma-filtered : f ≡ Luma → ((i : Input) (c : Ctb) → CtbOf (i .layout) p c sides → i .luma ≡ luma → LumaFilters i c filters
       → PieceOf (lumaPlane (i .layout) .columns) (columnSide (i .layout) c) (c .column) columns
       → PieceOf (lumaPlane (i .layout) .rows) (rowSide (i .layout) c) (c .row) rows
-      → new ≡ painted old (inRect (p .width) (columns .start) (columns .end) (rows .start) (rows .end)) (atIndex (lumaPlane (i .layout)) (lumaSample i)))
+      → new ≡ painted old (inRect (p .width) (columns .start) (columns .end) (rows .start) (rows .end))
+      (atIndex (lumaPlane (i .layout)) (lumaSample i)))
       → Named f
   luma-filtered e h = subst Named (sym e) (λ i c of same other own across down. simp div-one (h i c of same own across down))
 
@@ -146,7 +149,8 @@ module _ (f : Filter) (p : Picture) (sides : Sides) (columns rows : Piece) (luma
       let width : subWidth p ≡ subWidth (l .picture) = ap subWidth (sym (of .picture)) in
       let height : subHeight p ≡ subHeight (l .picture) = ap subHeight (sym (of .picture)) in
       h i c component of same own
-      (rw (column, ← width) (scaled-piece (l .picture .width) (ctbSize (l .picture)) (l .virtualColumns) 0 (columnSide l c) (c .column) (subWidth p)
+      (rw (column, ← width) (scaled-piece (l .picture .width) (ctbSize (l .picture)) (l .virtualColumns) 0 (columnSide l c)
+      (c .column) (subWidth p)
       (boundary (subWidth p) (ratios .0) (columns .start) (omega (arith, wide .start4))) across))
       (rw (row, ← height) (scaled-piece (l .picture .height) (ctbSize (l .picture)) (l .virtualRows) 0 (rowSide l c) (c .row) (subHeight p)
       (boundary (subHeight p) (ratios .1) (rows .start) (omega (arith, high .start4))) down))
@@ -154,7 +158,8 @@ module _ (f : Filter) (p : Picture) (sides : Sides) (columns rows : Piece) (luma
       (atIndex (chromaPlane (i .layout)) (chromaSample i component))))
 
   pub cross-filtered : {component : ℕ} → f ≡ CrossComponent component
-      → ((i : Input) (c : Ctb) (component : ℕ) → CtbOf (i .layout) p c sides → i .luma ≡ luma → i .chroma ≡ chroma → CrossFilter i c component filters
+      → ((i : Input) (c : Ctb) (component : ℕ) → CtbOf (i .layout) p c sides → i .luma ≡ luma → i .chroma ≡ chroma
+      → CrossFilter i c component filters
       → PieceOf (lumaPlane (i .layout) .columns) (columnSide (i .layout) c) (c .column) columns
       → PieceOf (lumaPlane (i .layout) .rows) (rowSide (i .layout) c) (c .row) rows
       → new ≡ painted old (inRect (p .width / subWidth p) (columns .start / subWidth p) (columns .end / subWidth p)

@@ -1,4 +1,5 @@
--- The ratios to luma of the planes that the filters write, the line that ends their pieces, and what a filter works in from one piece to the next. Assumes nothing.
+-- The ratios to luma of the planes that the filters write, the line that ends their pieces, and what a filter works in from one piece to
+-- the next. Assumes nothing.
 use mathlib.Core.Path.{_≡_, _∙_}
 use mathlib.Core.List.{List}
 use Prim.Native.Nat.{ℕ, _/_, _≤_}

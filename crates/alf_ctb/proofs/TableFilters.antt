@@ -18,13 +18,15 @@ use Rattle.alf_ctb.specs.Work.{Numbers}
 use Rattle.alf_ctb.specs.Tables.{FixedSame}
 
 -- the numbers that stand in a list are those of the CTB's filter
-module _ (f : Filter) (filters : List ℤ) (depth : ℕ) (fixedFilters : List ℤ) (fixedMap sliceMap sliceParams : List ℕ) (bank : List ℤ) (ctbParams : List ℕ) (k : ℕ) where
+module _ (f : Filter) (filters : List ℤ) (depth : ℕ) (fixedFilters : List ℤ) (fixedMap sliceMap sliceParams : List ℕ) (bank : List ℤ)
+    (ctbParams : List ℕ) (k : ℕ) where
   abbrev Loaded : Filter → Type 0
   Loaded f = Numbers f filters × ((i : Input) (c : Ctb) → TablesOf i c sliceMap sliceParams bank ctbParams k
       → FixedSame f i depth fixedFilters fixedMap → OwnFilter f i c filters)
 
   pub luma-loaded : f ≡ Luma
-      → FilterNumbers filters × ((i : Input) (c : Ctb) → TablesOf i c sliceMap sliceParams bank ctbParams k → FixedOf i depth fixedFilters fixedMap → LumaFilters i c filters)
+      → FilterNumbers filters × ((i : Input) (c : Ctb) → TablesOf i c sliceMap sliceParams bank ctbParams k
+      → FixedOf i depth fixedFilters fixedMap → LumaFilters i c filters)
       → Loaded f
   luma-loaded e h = subst Loaded (sym e) h
 
@@ -36,5 +38,9 @@ module _ (f : Filter) (filters : List ℤ) (depth : ℕ) (fixedFilters : List �
 
   pub cross-loaded : {component : ℕ} → f ≡ CrossComponent component → length filters ≡ 600
       → ((j : ℕ) → CoeffRange (getD filters j (pos 0))) × ((i : Input) (c : Ctb) → TablesOf i c sliceMap sliceParams bank ctbParams k
-      → (j : ℕ) → j < 7 → getD filters j (pos 0) ≡ crossCoeff i (crossAps i c component) component (crossIndex i c component - 1) j) → Loaded f
-  cross-loaded e n h = subst Loaded (sym e) (record { count = omega arith; coefficients = h .0 }, λ i c t same. record { coefficients = h .1 i c t })
+      → (j : ℕ) → j < 7 → getD filters j (pos 0) ≡ crossCoeff i (crossAps i c component) component (crossIndex i c component - 1) j)
+      → Loaded f
+  cross-loaded e n h = subst Loaded (sym e) (
+    record { count = omega arith; coefficients = h .0 },
+    λ i c t same. record { coefficients = h .1 i c t },
+  )

@@ -33,7 +33,8 @@ rowRatio Luma p = 1
 rowRatio (Chroma component) p = subHeight p
 rowRatio (CrossComponent component) p = subHeight p
 
--- how far above a CTB's bottom the line lies at which its pieces end, in luma rows: chroma does not read across its own, so that its pieces go on over it
+-- how far above a CTB's bottom the line lies at which its pieces end, in luma rows: chroma does not read across its own, so that its pieces
+-- go on over it
 abbrev pub walkLine : Filter → ℕ
 walkLine Luma = 4
 walkLine (Chroma component) = 0

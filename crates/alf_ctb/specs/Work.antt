@@ -64,8 +64,8 @@ Numbers Luma filters = FilterNumbers filters
 Numbers (Chroma component) filters = ChromaNumbers filters
 Numbers (CrossComponent component) filters = CrossNumbers filters
 
--- a piece is filtered: `new` is `old` with the piece's samples, or those of the filter's plane that lie in it, written anew, for every input in
--- which a CTB has these sides and this filter's numbers, and the piece is one of its pieces
+-- a piece is filtered: `new` is `old` with the piece's samples, or those of the filter's plane that lie in it, written anew, for every
+-- input in which a CTB has these sides and this filter's numbers, and the piece is one of its pieces
 abbrev pub PieceFiltered : Filter → Picture → Sides → Piece → Piece → List ℕ → List ℕ → List ℤ → List ℕ → List ℕ → Type 0
 PieceFiltered f p sides columns rows lumaSamples chromaSamples filters old new =
     (i : Input) (c : Ctb) → CtbOf (i .layout) p c sides → i .luma ≡ lumaSamples → i .chroma ≡ chromaSamples → OwnFilter f i c filters
@@ -75,9 +75,11 @@ PieceFiltered f p sides columns rows lumaSamples chromaSamples filters old new =
     (rows .start / rowRatio f p) (rows .end / rowRatio f p)) (atIndex (outputPlane (operationOf f) (i .layout)) (sampleOf f i))
 
 -- the pieces of a CTB's columns up to x are filtered, in a piece of its rows
-abbrev pub ColumnsFiltered : Filter → Picture → Grid → List ℕ → Ctb → Sides → Piece → List ℕ → List ℕ → List ℤ → ℕ → List ℕ → List ℕ → Type 0
+abbrev pub ColumnsFiltered : Filter → Picture → Grid → List ℕ → Ctb → Sides → Piece → List ℕ → List ℕ → List ℤ → ℕ → List ℕ
+    → List ℕ → Type 0
 ColumnsFiltered f p g virtualColumns c sides rows lumaSamples chromaSamples filters x old new =
-    (i : Input) → CtbOf (i .layout) p c sides → i .layout .virtualColumns ≡ virtualColumns → i .luma ≡ lumaSamples → i .chroma ≡ chromaSamples
+    (i : Input) → CtbOf (i .layout) p c sides → i .layout .virtualColumns ≡ virtualColumns → i .luma ≡ lumaSamples
+    → i .chroma ≡ chromaSamples
     → OwnFilter f i c filters → PieceOf (walkPlane f (i .layout) .rows) (rowSide (i .layout) c) (c .row) rows
     → new ≡ painted old (inRect (p .width / columnRatio f p) (c .column * g .ctb / columnRatio f p) (x / columnRatio f p)
     (rows .start / rowRatio f p) (rows .end / rowRatio f p)) (atIndex (outputPlane (operationOf f) (i .layout)) (sampleOf f i))

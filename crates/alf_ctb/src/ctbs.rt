@@ -44,7 +44,8 @@ fn filter_strip(
         × (Rooms filter picture (length (now copy)) (length (now differences)) (now taps) (length (now output)))
         × (virtualListValid (picture .width) (ctbSize picture) (now «virtual_columns») ≡ true)
         × (BlockPiece (picture .height) rows) × (ctb .column * grid .ctb < picture .width) ⌝ }
-    ensures { λ _. ⌜ (ColumnsFiltered filter picture grid (now («virtual_columns» .entry)) ctb sides rows (now (luma .entry)) (now (chroma .entry))
+    ensures { λ _. ⌜ (ColumnsFiltered filter picture grid (now («virtual_columns» .entry)) ctb sides rows (now (luma .entry))
+        (now (chroma .entry))
         (now (filters .entry)) (min (ctb .column * grid .ctb + grid .ctb) (picture .width)) (now (output .entry)) (now (output .exit)))
         × (TapNumbers (now (taps .exit))) ⌝ }
 {
@@ -73,7 +74,8 @@ fn filter_strip(
     }
 }
 
-// The piece that begins at luma row y of the CTB row q. It ends at the line, but for chroma: no tap of the chroma filter reads across its own.
+// The piece that begins at luma row y of the CTB row q. It ends at the line, but for chroma: no tap of the chroma filter reads across its
+// own.
 fn strip_rows(
     filter: Filter,
     picture: Picture,
@@ -117,7 +119,8 @@ pub fn filter_ctb(
         × (virtualListValid (picture .width) (ctbSize picture) (now «virtual_columns») ≡ true)
         × (virtualListValid (picture .height) (ctbSize picture) (now «virtual_rows») ≡ true)
         × (ctb .column * grid .ctb < picture .width) × (ctb .row * grid .ctb < picture .height) ⌝ }
-    ensures { λ _. ⌜ (RowsFiltered filter picture grid (now («virtual_columns» .entry)) (now («virtual_rows» .entry)) ctb sides (now (luma .entry))
+    ensures { λ _. ⌜ (RowsFiltered filter picture grid (now («virtual_columns» .entry)) (now («virtual_rows» .entry)) ctb sides
+        (now (luma .entry))
         (now (chroma .entry)) (now (filters .entry)) (min (ctb .row * grid .ctb + grid .ctb) (picture .height)) (now (output .entry))
         (now (output .exit))) × (TapNumbers (now (taps .exit))) ⌝ }
 {

@@ -1,5 +1,5 @@
-// A CTB, filtered: which filter, the numbers it has in the CTB, and its samples piece by piece. One driver for the three filters, since they differ only
-// in where a CTB's numbers stand and in what they do with a piece.
+// A CTB, filtered: which filter, the numbers it has in the CTB, and its samples piece by piece. One driver for the three filters, since
+// they differ only in where a CTB's numbers stand and in what they do with a piece.
 mod ctbs;
 mod pieces;
 mod tables;

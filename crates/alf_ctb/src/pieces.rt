@@ -12,8 +12,8 @@ use alf_spec::Grid;
 use alf_spec::Picture;
 use alf_spec::Sides;
 
-// The samples of a piece of the luma plane, or the chroma samples that lie in it, by the filter: those of every input in which a CTB has these
-// sides and this filter's numbers, and the piece is one of its pieces.
+// The samples of a piece of the luma plane, or the chroma samples that lie in it, by the filter: those of every input in which a CTB has
+// these sides and this filter's numbers, and the piece is one of its pieces.
 pub fn filter_piece(
     filter: Filter,
     picture: Picture,

@@ -21,7 +21,8 @@ use alf_params::luma_on;
 // The flag or index of the CTB at address k.
 pub fn is_on(filter: Filter, ctb_params: &[u8], k: usize) -> bool
     requires { ⌜ (ComponentOf filter) × (8 * k + 8 ≤ length (now «ctb_params»)) ⌝ }
-    ensures { λ r. ⌜ ((i : Input) (c : Ctb) → i .ctbParams ≡ now («ctb_params» .entry) → address (i .layout) c ≡ k → r ≡ isOn filter i c) ⌝ }
+    ensures { λ r. ⌜ ((i : Input) (c : Ctb) → i .ctbParams ≡ now («ctb_params» .entry) → address (i .layout) c ≡ k
+        → r ≡ isOn filter i c) ⌝ }
 {
     match filter {
         Filter::Luma => luma_on(ctb_params, k),
@@ -44,11 +45,13 @@ pub fn load(
     filters: &mut [i16],
 )
     requires { ⌜ (ComponentOf filter) × (CtbTables (now «slice_map») (now «slice_params») (now bank) (now «ctb_params») k)
-        × (FixedGiven filter depth (now «fixed_filters») (now «fixed_map»)) × (Switched filter (now «ctb_params») k) × (length (now filters) ≡ 600)
+        × (FixedGiven filter depth (now «fixed_filters») (now «fixed_map»)) × (Switched filter (now «ctb_params») k)
+        × (length (now filters) ≡ 600)
         × ((j : ℕ) → getD (now filters) j (pos 0) ≡ pos 0) ⌝ }
     ensures { λ _. ⌜ (Numbers filter (now (filters .exit))) × ((i : Input) (c : Ctb)
         → TablesOf i c (now («slice_map» .entry)) (now («slice_params» .entry)) (now (bank .entry)) (now («ctb_params» .entry)) k
-        → FixedSame filter i depth (now («fixed_filters» .entry)) (now («fixed_map» .entry)) → OwnFilter filter i c (now (filters .exit))) ⌝ }
+        → FixedSame filter i depth (now («fixed_filters» .entry)) (now («fixed_map» .entry))
+        → OwnFilter filter i c (now (filters .exit))) ⌝ }
 {
     match filter {
         Filter::Luma => {

@@ -16,9 +16,12 @@ use Rattle.alf_spec.specs.Input.{Layout, given, Input, inputOf}
 use Rattle.alf_spec.specs.Geometry.{subHeight, lineRows, planeOf, planeLength, ctbTotal, address}
 use Rattle.alf_spec.specs.Parameters.{ctbParam, sliceParam}
 use Rattle.alf_spec.specs.Process.{isFiltered, atIndex, filteredPlane, result, outputPlane}
-use Rattle.alf_spec.specs.Faults.{componentValid, filterLengthsValid, fixedLengthsValid, lengthsValid, sliceParamsValid, ctbRangesValid, ctbChromaZero, ctbParamsValidAt, parametersValid, bankValid, fixedValid, samplesValid, addressesValid, unless, layoutFault, tablesFault, fault}
+use Rattle.alf_spec.specs.Faults.{componentValid, filterLengthsValid, fixedLengthsValid, lengthsValid, sliceParamsValid, ctbRangesValid}
+use Rattle.alf_spec.specs.Faults.{ctbChromaZero, ctbParamsValidAt, parametersValid, bankValid, fixedValid, samplesValid, addressesValid}
+use Rattle.alf_spec.specs.Faults.{unless, layoutFault, tablesFault, fault}
 use Rattle.alf_spec.proofs.Tests.{implied, every-at}
-use Rattle.alf_spec.proofs.Accepted.{Accepted, accepted, passed, component-of, luma-length, chroma-length, luma-samples, chroma-samples, output-length}
+use Rattle.alf_spec.proofs.Accepted.{Accepted, accepted, passed, component-of, luma-length, chroma-length, luma-samples, chroma-samples}
+use Rattle.alf_spec.proofs.Accepted.{output-length}
 use Rattle.alf_math.specs.Grids.{GridOf}
 use Rattle.alf_math.proofs.Grids.{sample-bound}
 use Rattle.alf_luma.specs.Filters.{Places}
@@ -56,11 +59,13 @@ module _ (f : Filter) (i : Input) (ok : fault (operationOf f) i ≡ 0) where
   pub layout-accepted : Accepted (i .layout)
   layout-accepted = accepted (operationOf f) i ok .0
 
-  pub output-size : i .outputLength ≡ (i .layout .picture .width / columnRatio f (i .layout .picture)) * (i .layout .picture .height / rowRatio f (i .layout .picture))
+  pub output-size : i .outputLength ≡ (i .layout .picture .width / columnRatio f
+      (i .layout .picture)) * (i .layout .picture .height / rowRatio f (i .layout .picture))
   unfolding planeOf
   output-size = output-length (operationOf f) i ok ∙ ap planeLength (output-plane f (i .layout))
 
-  pub filter-given : {g : Grid} {places : List ℕ} → GridOf (i .layout .picture) g → Places places → Given f (i .layout .picture) g (i .luma) (i .chroma) places
+  pub filter-given : {g : Grid} {places : List ℕ} → GridOf (i .layout .picture) g → Places places
+      → Given f (i .layout .picture) g (i .luma) (i .chroma) places
   unfolding planeOf
   filter-given grid order = record {
     grid = grid;
@@ -83,7 +88,8 @@ component-valid (CrossComponent component) p e = component-of p component e
 pub component-accepted : (f : Filter) (i : Input) → fault (operationOf f) i ≡ 0 → ComponentOf f
 component-accepted f i ok = component-valid f (i .layout .picture) (accepted (operationOf f) i ok .1)
 
-pub fixed-accepted : (f : Filter) (i : Input) → fault (operationOf f) i ≡ 0 → FixedGiven f (i .layout .picture .«bit_depth») (i .fixedFilters) (i .fixedMap)
+pub fixed-accepted : (f : Filter) (i : Input) → fault (operationOf f) i ≡ 0
+    → FixedGiven f (i .layout .picture .«bit_depth») (i .fixedFilters) (i .fixedMap)
 fixed-accepted Luma i ok = accepted-fixed _ i ok refl
 fixed-accepted (Chroma component) i ok = tt
 fixed-accepted (CrossComponent component) i ok = tt
@@ -123,17 +129,21 @@ unfolding tablesFault
 addresses-valid f i ok =
     let op = operationOf f in
     let afterParameters = passed (implies (given op .filters) (parametersValid i)) 9 _ (accepted op i ok .3) .1 in
-    let afterBank = passed (implies (given op .filters) (bankValid i) && implies (given op .fixed) (fixedValid i)) 10 _ afterParameters .1 in
+    let afterBank = passed (implies (given op .filters) (bankValid i) && implies (given op .fixed) (fixedValid i)) 10 _ afterParameters .1
+    in
     let afterSamples = passed (implies (given op .luma) (samplesValid (i .layout .picture) (i .luma))
     && implies (given op .chroma) (samplesValid (i .layout .picture) (i .chroma))) 11 _ afterBank .1 in
-    implied (given op .filters) (addressesValid i) (passed (implies (given op .filters) (addressesValid i)) 12 0 afterSamples .0) (filters-given f)
+    implied (given op .filters) (addressesValid i) (passed (implies (given op .filters) (addressesValid i)) 12 0 afterSamples .0)
+    (filters-given f)
 
 -- each entry is a CTB's address
-pub listed-below : (f : Filter) (i : Input) → fault (operationOf f) i ≡ 0 → (j : ℕ) → j < length (i .ctbList) → getD (i .ctbList) j 0 < ctbTotal (i .layout)
+pub listed-below : (f : Filter) (i : Input) → fault (operationOf f) i ≡ 0 → (j : ℕ) → j < length (i .ctbList)
+    → getD (i .ctbList) j 0 < ctbTotal (i .layout)
 unfolding addressesValid
 listed-below f i ok j h = ltb-true _ _ (every-at 0 0 (λ _ n. ltb n (ctbTotal (i .layout))) (i .ctbList) (addresses-valid f i ok) j h)
 
-module _ (f : Filter) (l : Layout) (luma chroma sliceParams : List ℕ) (bank : List ℤ) (ctbParams : List ℕ) (fixedFilters : List ℤ) (fixedMap : List ℕ)
+module _ (f : Filter) (l : Layout) (luma chroma sliceParams : List ℕ) (bank : List ℤ) (ctbParams : List ℕ) (fixedFilters : List ℤ)
+    (fixedMap : List ℕ)
     (n : ℕ) where
   abbrev withList : List ℕ → Input
   withList list = inputOf l luma chroma sliceParams bank ctbParams list fixedFilters fixedMap n
@@ -146,11 +156,13 @@ module _ (f : Filter) (l : Layout) (luma chroma sliceParams : List ℕ) (bank : 
       layoutFault l (componentValid op (l .picture)) (lengthsValid op i)
       (unless (implies (given op .filters) (parametersValid i)) 10
       (unless (implies (given op .filters) (bankValid i) && implies (given op .fixed) (fixedValid i)) 11
-      (unless (implies (given op .luma) (samplesValid (l .picture) luma) && implies (given op .chroma) (samplesValid (l .picture) chroma)) 12
+      (unless (implies (given op .luma) (samplesValid (l .picture) luma)
+      && implies (given op .chroma) (samplesValid (l .picture) chroma)) 12
       (unless (implies (given op .filters) addresses) 13 0))))
 
   by-addresses : (list : List ℕ) → fault (operationOf f) (withList list) ≡ otherwise (addressesValid (withList list))
-  unfolding fault tablesFault lengthsValid filterLengthsValid parametersValid sliceParamsValid ctbParamsValidAt ctbRangesValid ctbChromaZero ctbParam sliceParam bankValid fixedValid fixedLengthsValid
+  unfolding fault tablesFault lengthsValid filterLengthsValid parametersValid sliceParamsValid ctbParamsValidAt ctbRangesValid ctbChromaZero
+      ctbParam sliceParam bankValid fixedValid fixedLengthsValid
   by-addresses list = refl
 
   -- an input that is accepted is accepted with no CTB listed, too

@@ -11,7 +11,8 @@ use Rattle.alf_pieces.specs.Copies.{runAt}
 use Rattle.alf_lists.proofs.Painted.{paint-of, paint-in}
 use Rattle.alf_lists.proofs.Regions.{in-run}
 
-pub plane-copied : (plane old : List ℕ) {new : List ℕ} → length plane ≡ length old → new ≡ painted old (between 0 (length plane)) (runAt plane 0 0) → new ≡ plane
+pub plane-copied : (plane old : List ℕ) {new : List ℕ} → length plane ≡ length old
+    → new ≡ painted old (between 0 (length plane)) (runAt plane 0 0) → new ≡ plane
 unfolding runAt
 plane-copied plane old {new} same e =
     let P = paint-of {xs = old} e in

@@ -28,11 +28,14 @@ whole-samples half b h = omega arith
 pub ctb-done : (f : Filter) (l : Layout) → Accepted l → {g : Grid} → GridOf (l .picture) g → (old : List ℕ) {new : List ℕ}
     → length old ≡ (l .picture .width / columnRatio f (l .picture)) * (l .picture .height / rowRatio f (l .picture)) → (v : ℕ → ℕ) (k : ℕ)
     → new ≡ painted old (inRect (l .picture .width / columnRatio f (l .picture))
-    (k % g .columns * g .ctb / columnRatio f (l .picture)) (min (k % g .columns * g .ctb + g .ctb) (l .picture .width) / columnRatio f (l .picture))
-    (k / g .columns * g .ctb / rowRatio f (l .picture)) (min (k / g .columns * g .ctb + g .ctb) (l .picture .height) / rowRatio f (l .picture))) v
+    (k % g .columns * g .ctb / columnRatio f (l .picture))
+    (min (k % g .columns * g .ctb + g .ctb) (l .picture .width) / columnRatio f (l .picture))
+    (k / g .columns * g .ctb / rowRatio f (l .picture)) (min (k / g .columns * g .ctb + g .ctb) (l .picture .height) / rowRatio f
+    (l .picture))) v
     → new ≡ painted old (ofCtb l (outputPlane (operationOf f) l) k) v
 unfolding planeOf
 ctb-done f l ok grid old {new} size v k e =
     let ratios = filter-ratios f (l .picture) in
     subst (λ (g : Plane). new ≡ painted old (ofCtb l g k) v) (sym (output-plane f l))
-    (ctb-painted l ok (columnRatio f (l .picture)) (rowRatio f (l .picture)) (outputLine f (l .picture)) (whole-samples (ratios .0)) (whole-samples (ratios .1)) old size grid v k e)
+    (ctb-painted l ok (columnRatio f (l .picture)) (rowRatio f (l .picture)) (outputLine f (l .picture)) (whole-samples (ratios .0))
+    (whole-samples (ratios .1)) old size grid v k e)

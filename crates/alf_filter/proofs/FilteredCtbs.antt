@@ -38,7 +38,8 @@ and-if true b c e = e refl
 and-if false b c e = refl
 
 -- a plane with these ratios to luma, of an accepted layout
-module _ (i : Input) (ok : Accepted (i .layout)) (columnRatio rowRatio line : ℕ) (wholeColumns : (b : ℕ) → b % 8 ≡ 0 → b / columnRatio * columnRatio ≡ b)
+module _ (i : Input) (ok : Accepted (i .layout)) (columnRatio rowRatio line : ℕ) (wholeColumns : (b : ℕ) → b % 8 ≡ 0
+    → b / columnRatio * columnRatio ≡ b)
     (wholeRows : (b : ℕ) → b % 8 ≡ 0 → b / rowRatio * rowRatio ≡ b) (on : Ctb → Bool) where
   abbrev l : Layout
   l = i .layout
@@ -54,7 +55,8 @@ module _ (i : Input) (ok : Accepted (i .layout)) (columnRatio rowRatio line : �
     own-test k t =
         let at : addressAt l g n ≡ k = eqb-true (addressAt l g n) k t in
         let own : ctbAt g (columnOf g n) (rowOf g n) ≡ ctbOf l k = sym (address-ctb l (ctbAt g (columnOf g n) (rowOf g n))
-        (column-in l ok columnRatio rowRatio line wholeColumns wholeRows n h) (row-in l ok columnRatio rowRatio line wholeColumns wholeRows n h)) ∙ ap (ctbOf l) at in
+        (column-in l ok columnRatio rowRatio line wholeColumns wholeRows n h)
+        (row-in l ok columnRatio rowRatio line wholeColumns wholeRows n h)) ∙ ap (ctbOf l) at in
         λ u. elem (at u) (i .ctbList) && on (own u)
 
     -- one CTB more
@@ -68,7 +70,8 @@ module _ (i : Input) (ok : Accepted (i .layout)) (columnRatio rowRatio line : �
         ∙ ap (λ (b : Bool). (beforeCtb l g k n && isFiltered i g on n) || b) (and-if (ofCtb l g k n) _ _ (own-test k))
 
     -- and all
-    pub all-before : filteredBefore i (planeOf (i .layout) columnRatio rowRatio line) on (ctbTotal (i .layout)) n ≡ isFiltered i (planeOf (i .layout) columnRatio rowRatio line) on n
+    pub all-before : filteredBefore i (planeOf (i .layout) columnRatio rowRatio line) on (ctbTotal (i .layout)) n ≡ isFiltered i
+        (planeOf (i .layout) columnRatio rowRatio line) on n
     unfolding filteredBefore
     all-before = rw (every-ctb l ok columnRatio rowRatio line wholeColumns wholeRows n h)
 
@@ -79,18 +82,21 @@ module _ (f : Filter) (i : Input) (ok : Accepted (i .layout)) (on : Ctb → Bool
   ratios = filter-ratios f (i .layout .picture)
 
   -- one CTB more
-  pub ctb-more : (m : ℕ) → m < planeLength (outputPlane (operationOf f) (i .layout)) → (k : ℕ) → let g = outputPlane (operationOf f) (i .layout) in
+  pub ctb-more : (m : ℕ) → m < planeLength (outputPlane (operationOf f) (i .layout)) → (k : ℕ) → let g =
+      outputPlane (operationOf f) (i .layout) in
       filteredBefore i g on (k + 1) m
       ≡ (filteredBefore i g on k m || ofCtbIf (i .layout) g k (elem k (i .ctbList) && on (ctbOf (i .layout) k)) m)
   ctb-more m h k = subst (λ (g : Plane). m < planeLength g → filteredBefore i g on (k + 1) m
-      ≡ (filteredBefore i g on k m || ofCtbIf (i .layout) g k (elem k (i .ctbList) && on (ctbOf (i .layout) k)) m)) (sym (output-plane f (i .layout)))
+      ≡ (filteredBefore i g on k m || ofCtbIf (i .layout) g k (elem k (i .ctbList) && on (ctbOf (i .layout) k)) m))
+      (sym (output-plane f (i .layout)))
       (λ h. one-more i ok _ _ _ (whole-samples (ratios .0)) (whole-samples (ratios .1)) on m h k) h
 
   -- and all
   pub ctbs-all : (m : ℕ) → m < planeLength (outputPlane (operationOf f) (i .layout)) → let g = outputPlane (operationOf f) (i .layout) in
       filteredBefore i g on (ctbTotal (i .layout)) m ≡ isFiltered i g on m
   ctbs-all m h =
-      subst (λ (g : Plane). m < planeLength g → filteredBefore i g on (ctbTotal (i .layout)) m ≡ isFiltered i g on m) (sym (output-plane f (i .layout)))
+      subst (λ (g : Plane). m < planeLength g → filteredBefore i g on (ctbTotal (i .layout)) m ≡ isFiltered i g on m)
+      (sym (output-plane f (i .layout)))
       (λ h. all-before i ok _ _ _ (whole-samples (ratios .0)) (whole-samples (ratios .1)) on m h) h
 
 -- ---- one CTB, by a test

@@ -33,6 +33,7 @@ unfolding isListed elem
 none-listed k = refl
 
 -- one entry more
-pub one-listed : (xs : List ℕ) (j : ℕ) → j < length xs → (k : ℕ) → isListed (take (j + 1) xs) k ≡ (isListed (take j xs) k || eqb (getD xs j 0) k)
+pub one-listed : (xs : List ℕ) (j : ℕ) → j < length xs → (k : ℕ)
+    → isListed (take (j + 1) xs) k ≡ (isListed (take j xs) k || eqb (getD xs j 0) k)
 unfolding isListed
 one-listed xs j h k = rw (add-one, take-suc xs j 0 h) (elem-last k (take j xs) (getD xs j 0))

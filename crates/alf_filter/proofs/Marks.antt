@@ -17,5 +17,6 @@ pub marks-listed : (list : List ℕ) {marks : List ℕ} → marks ≡ painted (r
     → (k : ℕ) → k < 16384 → eqb (getD marks k 0) 1 ≡ elem k list
 unfolding isListed
 marks-listed list e k h =
-    ap (λ (n : ℕ). eqb n 1) (paint-of {xs = replicate 16384 0} e .at k (rw (length-replicate 16384 zero) h) ∙ ap (λ (n : ℕ). cond (elem k list) 1 n) (getD-replicate 16384 k zero zero h))
+    ap (λ (n : ℕ). eqb n 1) (paint-of {xs = replicate 16384 0} e .at k (rw (length-replicate 16384 zero) h)
+    ∙ ap (λ (n : ℕ). cond (elem k list) 1 n) (getD-replicate 16384 k zero zero h))
     ∙ by-mark (elem k list)

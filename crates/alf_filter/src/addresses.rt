@@ -55,14 +55,18 @@ fn filter_on(
     taps: &mut [i16],
     output: &mut [u16],
 )
-    requires { ⌜ (fault (operationOf filter) (inputOf (layoutOf picture (now «virtual_columns») (now «virtual_rows») (now «tile_columns») (now «tile_rows»)
-        (now «slice_map») (now «subpic_map») (now «subpic_across»)) (now luma) (now chroma) (now «slice_params») (now bank) (now «ctb_params») [] (now «fixed_filters») (now «fixed_map»)
+    requires { ⌜ (fault (operationOf filter) (inputOf (layoutOf picture (now «virtual_columns») (now «virtual_rows») (now «tile_columns»)
+        (now «tile_rows»)
+        (now «slice_map») (now «subpic_map») (now «subpic_across»)) (now luma) (now chroma) (now «slice_params») (now bank)
+        (now «ctb_params») [] (now «fixed_filters») (now «fixed_map»)
         (length (now output))) ≡ 0)
         × (GridOf picture grid) × (k < grid .columns * grid .rows) × (Places (now places)) × (area ≤ length (now copy))
         × (4 * area ≤ length (now differences)) × (TapNumbers (now taps)) × (Switched filter (now «ctb_params») k) ⌝ }
-    ensures { λ _. ⌜ ((list : List ℕ) (n : ℕ) → let l = layoutOf picture (now («virtual_columns» .entry)) (now («virtual_rows» .entry)) (now («tile_columns» .entry)) (now («tile_rows» .entry))
+    ensures { λ _. ⌜ ((list : List ℕ) (n : ℕ) → let l = layoutOf picture (now («virtual_columns» .entry)) (now («virtual_rows» .entry))
+        (now («tile_columns» .entry)) (now («tile_rows» .entry))
         (now («slice_map» .entry)) (now («subpic_map» .entry)) (now («subpic_across» .entry)) in
-        let i = inputOf l (now (luma .entry)) (now (chroma .entry)) (now («slice_params» .entry)) (now (bank .entry)) (now («ctb_params» .entry)) list (now («fixed_filters» .entry)) (now («fixed_map» .entry))
+        let i = inputOf l (now (luma .entry)) (now (chroma .entry)) (now («slice_params» .entry)) (now (bank .entry))
+        (now («ctb_params» .entry)) list (now («fixed_filters» .entry)) (now («fixed_map» .entry))
         n in
         now (output .exit) ≡ painted (now (output .entry)) (ofCtb l (outputPlane (operationOf filter) l) k)
         (atIndex (outputPlane (operationOf filter) l) (sampleOf filter i))) × (TapNumbers (now (taps .exit))) ⌝ }
@@ -141,14 +145,18 @@ fn filter_address(
     taps: &mut [i16],
     output: &mut [u16],
 )
-    requires { ⌜ (fault (operationOf filter) (inputOf (layoutOf picture (now «virtual_columns») (now «virtual_rows») (now «tile_columns») (now «tile_rows»)
-        (now «slice_map») (now «subpic_map») (now «subpic_across»)) (now luma) (now chroma) (now «slice_params») (now bank) (now «ctb_params») [] (now «fixed_filters») (now «fixed_map»)
+    requires { ⌜ (fault (operationOf filter) (inputOf (layoutOf picture (now «virtual_columns») (now «virtual_rows») (now «tile_columns»)
+        (now «tile_rows»)
+        (now «slice_map») (now «subpic_map») (now «subpic_across»)) (now luma) (now chroma) (now «slice_params») (now bank)
+        (now «ctb_params») [] (now «fixed_filters») (now «fixed_map»)
         (length (now output))) ≡ 0)
         × (GridOf picture grid) × (k < grid .columns * grid .rows) × (Places (now places)) × (area ≤ length (now copy))
         × (4 * area ≤ length (now differences)) × (TapNumbers (now taps)) × (k < length (now marks)) ⌝ }
-    ensures { λ _. ⌜ ((list : List ℕ) (n : ℕ) → let l = layoutOf picture (now («virtual_columns» .entry)) (now («virtual_rows» .entry)) (now («tile_columns» .entry)) (now («tile_rows» .entry))
+    ensures { λ _. ⌜ ((list : List ℕ) (n : ℕ) → let l = layoutOf picture (now («virtual_columns» .entry)) (now («virtual_rows» .entry))
+        (now («tile_columns» .entry)) (now («tile_rows» .entry))
         (now («slice_map» .entry)) (now («subpic_map» .entry)) (now («subpic_across» .entry)) in
-        let i = inputOf l (now (luma .entry)) (now (chroma .entry)) (now («slice_params» .entry)) (now (bank .entry)) (now («ctb_params» .entry)) list (now («fixed_filters» .entry)) (now («fixed_map» .entry))
+        let i = inputOf l (now (luma .entry)) (now (chroma .entry)) (now («slice_params» .entry)) (now (bank .entry))
+        (now («ctb_params» .entry)) list (now («fixed_filters» .entry)) (now («fixed_map» .entry))
         n in
         now (output .exit) ≡ painted (now (output .entry))
         (ofCtbIf l (outputPlane (operationOf filter) l) k (eqb (getD (now (marks .entry)) k 0) 1 && isOn filter i (ctbOf l k)))
@@ -208,14 +216,19 @@ pub(crate) fn filter_marked(
     places: &[u8],
     output: &mut [u16],
 )
-    requires { ⌜ (fault (operationOf filter) (inputOf (layoutOf picture (now «virtual_columns») (now «virtual_rows») (now «tile_columns») (now «tile_rows»)
-        (now «slice_map») (now «subpic_map») (now «subpic_across»)) (now luma) (now chroma) (now «slice_params») (now bank) (now «ctb_params») [] (now «fixed_filters») (now «fixed_map»)
+    requires { ⌜ (fault (operationOf filter) (inputOf (layoutOf picture (now «virtual_columns») (now «virtual_rows») (now «tile_columns»)
+        (now «tile_rows»)
+        (now «slice_map») (now «subpic_map») (now «subpic_across»)) (now luma) (now chroma) (now «slice_params») (now bank)
+        (now «ctb_params») [] (now «fixed_filters») (now «fixed_map»)
         (length (now output))) ≡ 0)
         × (GridOf picture grid) × (Places (now places)) × (length (now marks) ≡ 16384) ⌝ }
-    ensures { λ _. ⌜ ((list : List ℕ) (n : ℕ) → ((k : ℕ) → k < grid .columns * grid .rows → eqb (getD (now (marks .entry)) k 0) 1 ≡ elem k list)
-        → let l = layoutOf picture (now («virtual_columns» .entry)) (now («virtual_rows» .entry)) (now («tile_columns» .entry)) (now («tile_rows» .entry))
+    ensures { λ _. ⌜ ((list : List ℕ) (n : ℕ)
+        → ((k : ℕ) → k < grid .columns * grid .rows → eqb (getD (now (marks .entry)) k 0) 1 ≡ elem k list)
+        → let l = layoutOf picture (now («virtual_columns» .entry)) (now («virtual_rows» .entry)) (now («tile_columns» .entry))
+        (now («tile_rows» .entry))
         (now («slice_map» .entry)) (now («subpic_map» .entry)) (now («subpic_across» .entry)) in
-        let i = inputOf l (now (luma .entry)) (now (chroma .entry)) (now («slice_params» .entry)) (now (bank .entry)) (now («ctb_params» .entry)) list (now («fixed_filters» .entry)) (now («fixed_map» .entry))
+        let i = inputOf l (now (luma .entry)) (now (chroma .entry)) (now («slice_params» .entry)) (now (bank .entry))
+        (now («ctb_params» .entry)) list (now («fixed_filters» .entry)) (now («fixed_map» .entry))
         n in
         now (output .exit) ≡ painted (now (output .entry)) (isFiltered i (outputPlane (operationOf filter) l) (isOn filter i))
         (atIndex (outputPlane (operationOf filter) l) (sampleOf filter i))) ⌝ }

@@ -1,4 +1,5 @@
-// Which CTBs are listed. The list may repeat an address and has no order; a mark for each CTB has neither, so that each CTB is filtered at most once.
+// Which CTBs are listed. The list may repeat an address and has no order; a mark for each CTB has neither, so that each CTB is filtered at
+// most once.
 ghost use mathlib.Core.Path.{_≡_};
 ghost use Prim.Native.Nat.{ℕ, _<_};
 ghost use lib.ListN.{length, getD};

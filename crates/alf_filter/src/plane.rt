@@ -58,11 +58,17 @@ pub fn filter_plane(
     chroma: &[u16],
     output: &mut [u16],
 )
-    requires { ⌜ fault (operationOf filter) (inputOf (layoutOf picture (now «virtual_columns») (now «virtual_rows») (now «tile_columns») (now «tile_rows»)
-        (now «slice_map») (now «subpic_map») (now «subpic_across»)) (now luma) (now chroma) (now «slice_params») (now bank) (now «ctb_params») (now «ctb_list») (now «fixed_filters»)
+    requires { ⌜ fault (operationOf filter) (inputOf (layoutOf picture (now «virtual_columns») (now «virtual_rows») (now «tile_columns»)
+        (now «tile_rows»)
+        (now «slice_map») (now «subpic_map») (now «subpic_across»)) (now luma) (now chroma) (now «slice_params») (now bank)
+        (now «ctb_params») (now «ctb_list») (now «fixed_filters»)
         (now «fixed_map») (length (now output))) ≡ 0 ⌝ }
-    ensures { λ _. ⌜ now (output .exit) ≡ result (operationOf filter) (inputOf (layoutOf picture (now («virtual_columns» .entry)) (now («virtual_rows» .entry)) (now («tile_columns» .entry)) (now («tile_rows» .entry))
-        (now («slice_map» .entry)) (now («subpic_map» .entry)) (now («subpic_across» .entry))) (now (luma .entry)) (now (chroma .entry)) (now («slice_params» .entry)) (now (bank .entry)) (now («ctb_params» .entry)) (now («ctb_list» .entry)) (now («fixed_filters» .entry))
+    ensures { λ _. ⌜ now (output .exit) ≡ result (operationOf filter)
+        (inputOf (layoutOf picture (now («virtual_columns» .entry)) (now («virtual_rows» .entry)) (now («tile_columns» .entry))
+        (now («tile_rows» .entry))
+        (now («slice_map» .entry)) (now («subpic_map» .entry)) (now («subpic_across» .entry))) (now (luma .entry)) (now (chroma .entry))
+        (now («slice_params» .entry)) (now (bank .entry)) (now («ctb_params» .entry)) (now («ctb_list» .entry))
+        (now («fixed_filters» .entry))
         (now («fixed_map» .entry)) (length (now (output .entry)))) ⌝ }
 {
     copy_input(filter, luma, chroma, output);

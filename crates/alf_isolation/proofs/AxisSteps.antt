@@ -1,5 +1,5 @@
--- Steps out of a block along one axis: each is known by the boundary that it crosses, a CTB's side where that is a multiple of the CTB size.
--- Assumes nothing.
+-- Steps out of a block along one axis: each is known by the boundary that it crosses, a CTB's side where that is a multiple of the CTB
+-- size. Assumes nothing.
 use mathlib.Core.Path.{_≡_, refl, sym, _∙_, ap}
 use mathlib.Core.Logic.{_≢_, by-cases}
 use mathlib.Core.Bool.{Bool, true, false, not}

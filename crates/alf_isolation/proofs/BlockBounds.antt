@@ -15,7 +15,8 @@ use Rattle.alf_spec.specs.Lists.{allBelow}
 use Rattle.alf_spec.specs.Boundary.{disables}
 use Rattle.alf_spec.proofs.Tests.{both, neither}
 use Rattle.alf_isolation.specs.declared.steps.BlockSides.{BlockSides}
-use Rattle.alf_isolation.specs.Steps.{stepOpen, rowSides, blockSides, blocksAlong, blockTest, rowTest, ctbTest, BlocksOf, RowIn, BlockIn}
+use Rattle.alf_isolation.specs.Steps.{stepOpen, rowSides, blockSides, blocksAlong, blockTest, rowTest, ctbTest, BlocksOf, RowIn}
+use Rattle.alf_isolation.specs.Steps.{BlockIn}
 
 -- ---- diagonal steps lead to a block of the region
 
@@ -68,7 +69,8 @@ block-in {width} {ctb} {n} {from} {s} r list x h e = rw e (record {
     right l = open-within width ctb list (s .right) (8 * x + 8) (not-false _ l)
 
 -- the first block of a row
-pub row-begins : {p : Picture} {ctb : ℕ} {region : List ℕ} → BlocksOf p ctb region → (y : ℕ) → y < p .height / 8 → y * (p .width / 8) ≤ 262144
+pub row-begins : {p : Picture} {ctb : ℕ} {region : List ℕ} → BlocksOf p ctb region → (y : ℕ) → y < p .height / 8
+    → y * (p .width / 8) ≤ 262144
 row-begins b y h = mul-le-mul {n₂ = 512} {m₂ = 512} (omega (arith, b .heightHigh)) (omega (arith, b .widthHigh))
 
 -- a row of blocks
@@ -104,7 +106,8 @@ module _ (p : Picture) (ctb : ℕ) (virtualColumns virtualRows region : List ℕ
   unfolding rowTest
   row-test first count y sides e = rw (← sides) e
 
-  pub ctb-test : (c : Ctb) {columns rows : ℕ} → columns ≡ blocksAlong (p .width) ctb (c .column) → rows ≡ blocksAlong (p .height) ctb (c .row)
+  pub ctb-test : (c : Ctb) {columns rows : ℕ} → columns ≡ blocksAlong (p .width) ctb (c .column)
+      → rows ≡ blocksAlong (p .height) ctb (c .row)
       → {r : Bool}
       → r ≡ allBelow rows (λ j. rowTest p ctb virtualColumns virtualRows region s (c .column * (ctb / 8)) columns (c .row * (ctb / 8) + j))
       → r ≡ ctbTest p ctb virtualColumns virtualRows region c s

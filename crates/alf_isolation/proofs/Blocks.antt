@@ -1,5 +1,5 @@
--- The isolation test by blocks is the definition over all samples: the definition at a block's edge and corner samples is the test of the block,
--- and a step from any sample of a block stays in the block or leaves it as a step from such a sample does. Assumes nothing.
+-- The isolation test by blocks is the definition over all samples: the definition at a block's edge and corner samples is the test of the
+-- block, and a step from any sample of a block stays in the block or leaves it as a step from such a sample does. Assumes nothing.
 use mathlib.Core.Path.{_≡_, refl, sym, _∙_, subst₂}
 use mathlib.Core.Bool.{true}
 use mathlib.Core.List.{List}

@@ -11,8 +11,10 @@ use Rattle.alf_spec.specs.declared.Ctb.{Ctb}
 use Rattle.alf_spec.specs.declared.Sides.{Sides}
 use Rattle.alf_spec.specs.Lists.{implies}
 use Rattle.alf_spec.specs.Input.{Layout}
-use Rattle.alf_spec.specs.Geometry.{Side, before, after, sameSide, next, ctbSize, planeOf, lumaPlane, blockPlane, ctbAt, ctbColumns, ctbRows}
-use Rattle.alf_spec.specs.Boundary.{disables, sliceOf, sliceDisables, stepCause, besideCtb, stackedCtb, columnSide, columnDisabled, rowSide, rowDisabled, cornerDisabled}
+use Rattle.alf_spec.specs.Geometry.{Side, before, after, sameSide, next, ctbSize, planeOf, lumaPlane, blockPlane, ctbAt, ctbColumns}
+use Rattle.alf_spec.specs.Geometry.{ctbRows}
+use Rattle.alf_spec.specs.Boundary.{disables, sliceOf, sliceDisables, stepCause, besideCtb, stackedCtb, columnSide, columnDisabled, rowSide}
+use Rattle.alf_spec.specs.Boundary.{rowDisabled, cornerDisabled}
 use Rattle.alf_spec.specs.Isolation.{openStep, columnStep, rowStep, diagonalStep}
 use Rattle.alf_spec.proofs.Tests.{both, all-same}
 use Rattle.alf_spec.proofs.Accepted.{Accepted}
@@ -21,7 +23,8 @@ use Rattle.alf_spec.proofs.Axes.{regular-columns, regular-rows}
 use Rattle.alf_isolation.specs.Blocks.{edge, blockInside, blockStays, blockPasses, blocksIn, ctbPasses}
 use Rattle.alf_boundary.specs.Tables.{SidesOf}
 use Rattle.alf_isolation.specs.declared.steps.BlockSides.{BlockSides}
-use Rattle.alf_isolation.specs.Steps.{stepOpen, rowSides, blockSides, insideAt, neighboursInside, blocksAlong, blockTest, rowTest, ctbTest}
+use Rattle.alf_isolation.specs.Steps.{stepOpen, rowSides, blockSides, insideAt, neighboursInside, blocksAlong, blockTest, rowTest}
+use Rattle.alf_isolation.specs.Steps.{ctbTest}
 use Rattle.alf_isolation.proofs.AxisSteps.{Crossing, stays, crosses, boundary, block-step, block-crossing, block-low}
 use Rattle.alf_isolation.proofs.CtbOrder.{block-below}
 
@@ -108,7 +111,8 @@ module _ (columns x y : ℕ) (h : x < columns) where
 
 -- of the block x, y in the CTB c
 module _ (l : Layout) (ok : Accepted l) (c : Ctb) (x y : ℕ)
-    (inColumn : (d : Side) → edge d x / ctbSize (l .picture) ≡ c .column) (inRow : (e : Side) → edge e y / ctbSize (l .picture) ≡ c .row) where
+    (inColumn : (d : Side) → edge d x / ctbSize (l .picture) ≡ c .column) (inRow : (e : Side)
+    → edge e y / ctbSize (l .picture) ≡ c .row) where
   own-ctb : (d e : Side) → ctbAt (lumaPlane l) (edge d x) (edge e y) ≡ c
   own-ctb d e = luma-ctb l (edge d x) (edge e y) ∙ rw (inColumn d, inRow e)
 
@@ -137,7 +141,8 @@ module _ (l : Layout) (ok : Accepted l) (c : Ctb) (x y : ℕ)
   corner-test d = eqb (boundary d x % ctbSize (l .picture)) 0 && (eqb (boundary d y % ctbSize (l .picture)) 0 && cornerDisabled l c d)
 
   corner-slice : (d : Side) → columnStep l (edge d x) (edge d y) d ≡ true → rowStep l (edge d x) (edge d y) d ≡ true
-      → (sameSide d d && sliceDisables l (ctbAt (lumaPlane l) (edge d x) (edge d y)) (ctbAt (lumaPlane l) (next d (edge d x)) (next d (edge d y))))
+      → (sameSide d d && sliceDisables l (ctbAt (lumaPlane l) (edge d x) (edge d y))
+      (ctbAt (lumaPlane l) (next d (edge d x)) (next d (edge d y))))
       ≡ corner-test d
   unfolding corner-test planeOf
   corner-slice d o p =
@@ -229,7 +234,8 @@ module _ (l : Layout) (ok : Accepted l) (c : Ctb) (x y : ℕ)
           && ((step-inside _ _ _ upper-left (λ o. ap at (index-upper-left _ x y inside (diagonal-low before before o))) t
           && step-inside _ _ _ lower-left (λ o. ap at (index-lower-left _ x y inside (diagonal-low before after o .0))) t)
           && (step-inside _ _ _ upper-right (λ o. ap at (index-upper-right _ x y inside (diagonal-low after before o .1))) t
-          && step-inside (diagonalStep l (edge after x) (edge after y) after after) _ _ lower-right (λ o. ap at (index-lower-right _ x y inside)) t)))
+          && step-inside (diagonalStep l (edge after x) (edge after y) after after) _ _ lower-right
+          (λ o. ap at (index-lower-right _ x y inside)) t)))
 
       -- the code's test of the block
       block-test : blockTest (l .picture .width) (ctbSize (l .picture)) (l .virtualColumns) region (y * (l .picture .width / 8))

@@ -57,7 +57,8 @@ module _ (l : Layout) (region : List ℕ) (accepted : isolationFault l region �
 
     -- the code's answer for a CTB with these sides
     pub address-passes : {s : Sides} → SidesOf l (record { column = k % g .columns; row = k / g .columns }) s → {r : Bool}
-        → r ≡ ctbTest (l .picture) (g .ctb) (l .virtualColumns) (l .virtualRows) region (record { column = k % g .columns; row = k / g .columns }) s
+        → r ≡ ctbTest (l .picture) (g .ctb) (l .virtualColumns) (l .virtualRows) region
+        (record { column = k % g .columns; row = k / g .columns }) s
         → r ≡ addressPasses l region k
     unfolding addressPasses
     address-passes sides e =

@@ -1,4 +1,5 @@
--- The isolation test by 8 by 8 blocks: what the code tests, which `proofs/Blocks` shows to be the definition over all samples. Assumes nothing.
+-- The isolation test by 8 by 8 blocks: what the code tests, which `proofs/Blocks` shows to be the definition over all samples. Assumes
+-- nothing.
 use mathlib.Core.Bool.{Bool, _&&_}
 use mathlib.Core.List.{List}
 use Prim.Native.Nat.{ℕ, _+_, _-_, _*_, _/_, min}

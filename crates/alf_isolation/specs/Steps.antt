@@ -24,8 +24,8 @@ unfoldable pub stepOpen : ℕ → ℕ → List ℕ → Bool → ℕ → Bool
 stepOpen size ctb boundaries disabled b =
     (ltb 0 b && ltb b size) && (not (elem b boundaries) && (not (eqb (b % ctb) 0) || not disabled))
 
--- of a row of blocks y in a CTB with the sides s. Top and bottom are flagged where no step across them is open; the corners count in the CTB's first
--- and last row.
+-- of a row of blocks y in a CTB with the sides s. Top and bottom are flagged where no step across them is open; the corners count in the
+-- CTB's first and last row.
 unfoldable pub rowSides : ℕ → ℕ → List ℕ → Sides → ℕ → BlockSides
 rowSides height ctb boundaries s y = record {
   left = disables (s .left);
@@ -104,8 +104,8 @@ pub record BlocksOf (p : Picture) (ctb : ℕ) (region : List ℕ) : Type 0 where
   pub height8 : p .height % 8 ≡ 0
   pub numbers : length region ≡ p .width / 8 * (p .height / 8)
 
--- a row of blocks that begins at `from`, with the sides s: it lies in the region of n numbers, and so do the rows next to it where a step leads
--- there
+-- a row of blocks that begins at `from`, with the sides s: it lies in the region of n numbers, and so do the rows next to it where a step
+-- leads there
 pub record RowIn (width ctb n from : ℕ) (s : BlockSides) : Type 0 where
   pub ctbLow : 32 ≤ ctb
   pub widthHigh : width ≤ 4096

@@ -1,5 +1,5 @@
-// The blocks next to a block, and the test of the blocks of a row: no open step leads from one in the region to one outside of it. A region has
-// a number for each 8 by 8 luma block, 1 inside.
+// The blocks next to a block, and the test of the blocks of a row: no open step leads from one in the region to one outside of it. A region
+// has a number for each 8 by 8 luma block, 1 inside.
 ghost use mathlib.Core.Path.{_≡_};
 ghost use mathlib.Core.Bool.{false, _||_};
 ghost use Prim.Native.Nat.{_+_, _-_, _/_, _≤_, _<_};

@@ -1,5 +1,5 @@
-// The sides of a row of blocks, and of a block in it, from those of their CTB. Blocks are of 8 by 8 luma samples; a row and a block are known by
-// their place in the picture, counted in blocks.
+// The sides of a row of blocks, and of a block in it, from those of their CTB. Blocks are of 8 by 8 luma samples; a row and a block are
+// known by their place in the picture, counted in blocks.
 ghost use mathlib.Core.Path.{_≡_};
 ghost use Prim.Native.Nat.{_≤_, _<_};
 ghost use Rattle.alf_isolation.specs.Steps.{stepOpen, rowSides, blockSides};

@@ -39,7 +39,8 @@ module _ {A : Type 0} {d : A} where
   fill-call {xs} {ys} {zs} {p} {q} {r} {v} {w} P R agree grows = record {
     len = R .len ∙ P .len;
     at = λ k h.
-        R .at k (omega (arith, P .len)) ∙ ap (λ (x : A). cond (r k) (w k) x) (P .at k h) ∙ over (p k) (r k) (w k) (v k) (getD xs k d) (agree k h)
+        R .at k (omega (arith, P .len)) ∙ ap (λ (x : A). cond (r k) (w k) x) (P .at k h)
+        ∙ over (p k) (r k) (w k) (v k) (getD xs k d) (agree k h)
         ∙ ap (λ (b : Bool). cond b (v k) (getD xs k d)) (sym (grows k h));
   }
 
@@ -122,7 +123,11 @@ paint-set = fill-set
 -- the same part written once more, by what stands there
 pub paint-again : {xs ys zs : List ℕ} {p : ℕ → Bool} {v w u : ℕ → ℕ} → Paint xs p v ys → Paint ys p w zs
     → ((k : ℕ) → k < length xs → p k ≡ true → w k ≡ u k) → Paint xs p u zs
-paint-again {xs} {ys} {zs} {p} {v} {w} {u} P Q agree = record { len = Q .len ∙ P .len; at = λ k h. Q .at k (omega (arith, P .len)) ∙ pick k h (p k) refl }
+paint-again {xs} {ys} {zs} {p} {v} {w} {u} P Q agree = record {
+  len = Q .len ∙ P .len;
+  at = λ k h. Q .at k (omega (arith, P .len))
+      ∙ pick k h (p k) refl;
+}
   where
     pick : (k : ℕ) → k < length xs → (b : Bool) → p k ≡ b → cond b (w k) (getD ys k 0) ≡ cond b (u k) (getD xs k 0)
     pick k h true e = agree k h e

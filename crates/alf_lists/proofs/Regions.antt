@@ -63,7 +63,8 @@ module _ (columns x x′ y y′ k : ℕ) where
   pub in-rect : Inside columns x x′ y y′ k → inRect columns x x′ y y′ k ≡ true
   unfolding inRect
   in-rect h =
-      simp (le-leb x (k % columns) (h .0), lt-ltb (k % columns) x′ (h .1)) (simp (le-leb y (k / columns) (h .2)) (lt-ltb (k / columns) y′ (h .3)))
+      simp (le-leb x (k % columns) (h .0), lt-ltb (k % columns) x′ (h .1))
+      (simp (le-leb y (k / columns) (h .2)) (lt-ltb (k / columns) y′ (h .3)))
 
   pub rect-facts : inRect columns x x′ y y′ k ≡ true → Inside columns x x′ y y′ k
   unfolding inRect
@@ -87,7 +88,8 @@ rect-beside columns x m x′ y y′ a b k =
     (λ t. let h = rect-facts columns m x′ y y′ k t in in-rect columns x x′ y y′ k (omega arith))
     (λ t.
     let h = rect-facts columns x x′ y y′ k t in
-    ⊎-elim (λ l. inl (in-rect columns x m y y′ k (omega arith))) (λ l. inr (in-rect columns m x′ y y′ k (omega arith))) (order (k % columns) m))
+    ⊎-elim (λ l. inl (in-rect columns x m y y′ k (omega arith))) (λ l. inr (in-rect columns m x′ y y′ k (omega arith)))
+    (order (k % columns) m))
 
 -- one above the other: it is split at the row m
 pub rect-stacked : (columns x x′ y m y′ : ℕ) → y ≤ m → m ≤ y′ → (k : ℕ)
@@ -98,7 +100,8 @@ rect-stacked columns x x′ y m y′ a b k =
     (λ t. let h = rect-facts columns x x′ m y′ k t in in-rect columns x x′ y y′ k (omega arith))
     (λ t.
     let h = rect-facts columns x x′ y y′ k t in
-    ⊎-elim (λ l. inl (in-rect columns x x′ y m k (omega arith))) (λ l. inr (in-rect columns x x′ m y′ k (omega arith))) (order (k / columns) m))
+    ⊎-elim (λ l. inl (in-rect columns x x′ y m k (omega arith))) (λ l. inr (in-rect columns x x′ m y′ k (omega arith)))
+    (order (k / columns) m))
 
 -- a place of row y, and its column
 pub row-of : (columns y k : ℕ) → y * columns ≤ k → k < y * columns + columns → (k / columns ≡ y) × (y * columns + k % columns ≡ k)
@@ -128,4 +131,5 @@ rect-row columns x n y fits k =
 -- one row more
 pub rect-more : (columns x n y y′ : ℕ) → x + n ≤ columns → y ≤ y′ → (k : ℕ)
     → inRect columns x (x + n) y (y′ + 1) k ≡ (inRect columns x (x + n) y y′ k || between (y′ * columns + x) n k)
-rect-more columns x n y y′ fits h k = rw (← (rect-row columns x n y′ fits k)) (rect-stacked columns x (x + n) y y′ (y′ + 1) h (omega arith) k)
+rect-more columns x n y y′ fits h k = rw (← (rect-row columns x n y′ fits k))
+    (rect-stacked columns x (x + n) y y′ (y′ + 1) h (omega arith) k)

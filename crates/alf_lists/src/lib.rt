@@ -1,5 +1,5 @@
-// Lists that are written part by part: what a loop has written so far, and what the whole list then holds (specs/, proofs/). All loops of the filters that
-// write a plane, a map or a table stand on these laws; they know nothing of pictures.
+// Lists that are written part by part: what a loop has written so far, and what the whole list then holds (specs/, proofs/). All loops of
+// the filters that write a plane, a map or a table stand on these laws; they know nothing of pictures.
 ghost use Prim.Native.Nat.{_+_, _≤_};
 ghost use lib.ListN.{length};
 ghost use lib.IntN.{pos};

@@ -15,7 +15,8 @@ use Rattle.alf_luma.specs.Filters.{tapPlace, Places}
 -- coefficients and clips alike fit 16 bits
 pub numbers-small : {filters : List ℤ} → FilterNumbers filters → (k : ℕ) → natAbs (getD filters k (pos 0)) ≤ 4096
 numbers-small {filters} h k =
-    ⊎-elim (λ l. ⊎-elim (low l) (high l) (order (k % 24) 12)) (λ l. rw (List·getD-eq-default filters (pos 0) {n = k} (omega (arith, h .count))) (omega arith))
+    ⊎-elim (λ l. ⊎-elim (low l) (high l) (order (k % 24) 12))
+    (λ l. rw (List·getD-eq-default filters (pos 0) {n = k} (omega (arith, h .count))) (omega arith))
     (order k 600)
   where
     low : k < 600 → k % 24 < 12 → natAbs (getD filters k (pos 0)) ≤ 4096
@@ -36,5 +37,6 @@ place-small t j ht hj = ⊎-elim
     (order j 12)
 
 -- the order of one transpose in the table
-pub places-small : {places : List ℕ} → Places places → (transpose : ℕ) → transpose < 4 → (j : ℕ) → j < 24 → getD places (24 * transpose + j) 0 < 24
+pub places-small : {places : List ℕ} → Places places → (transpose : ℕ) → transpose < 4 → (j : ℕ) → j < 24
+    → getD places (24 * transpose + j) 0 < 24
 places-small p t ht j hj = rw (p .entries t j ht hj) (place-small t j ht hj)

@@ -54,11 +54,14 @@ unfolding copyClassAt
 map-of p ctb copy columns rows old e count narrow low b r hb hr =
     let row : (r * 32 + b) / 32 - 0 ≡ r = omega arith in
     let column : (r * 32 + b) % 32 - 0 ≡ b = omega arith in
-    paint-in (paint-of e) (r * 32 + b) (omega arith) (in-rect 32 0 (0 + extent columns / 4) 0 (0 + extent rows / 4) (r * 32 + b) (omega arith))
+    paint-in (paint-of e) (r * 32 + b) (omega arith) (in-rect 32 0 (0 + extent columns / 4) 0 (0 + extent rows / 4)
+    (r * 32 + b) (omega arith))
     ∙ (λ k. classNumber
-    (classOf (p .«bit_depth») (rowWindow (p .height) ctb (rows .start + 4 * row k)) (copyWindow copy (pitch columns) (4 * column k) (4 * row k))))
+    (classOf (p .«bit_depth») (rowWindow (p .height) ctb (rows .start + 4 * row k))
+    (copyWindow copy (pitch columns) (4 * column k) (4 * row k))))
 
-module _ {i : Input} {p : Picture} {c : Ctb} {sides : Sides} (ctb : CtbOf (i .layout) p c sides) {g : Grid} (grid : GridOf p g) {columns rows : Piece}
+module _ {i : Input} {p : Picture} {c : Ctb} {sides : Sides} (ctb : CtbOf (i .layout) p c sides) {g : Grid} (grid : GridOf p g)
+    {columns rows : Piece}
     (across : PieceOf (lumaPlane (i .layout) .columns) (columnSide (i .layout) c) (c .column) columns)
     (down : PieceOf (lumaPlane (i .layout) .rows) (rowSide (i .layout) c) (c .row) rows) (copy copy0 : List ℕ)
     {luma : List ℕ} (given : i .luma ≡ luma)
@@ -68,7 +71,8 @@ module _ {i : Input} {p : Picture} {c : Ctb} {sides : Sides} (ctb : CtbOf (i .la
   l = i .layout
 
   copies : copy ≡ painted copy0 (between 0 (copyLength columns rows)) (copyAt columns rows sides (i .luma) (p .width))
-  copies = filled ∙ ap (λ (plane : List ℕ). painted copy0 (between 0 (copyLength columns rows)) (copyAt columns rows sides plane (p .width))) (sym given)
+  copies = filled ∙ ap (λ (plane : List ℕ). painted copy0 (between 0 (copyLength columns rows))
+      (copyAt columns rows sides plane (p .width))) (sym given)
 
   abbrev inColumns : Facts (lumaPlane l .columns) (columnSide l c) (c .column) columns
   inColumns = column-facts ctb 1 1 4 whole across
@@ -96,10 +100,12 @@ module _ {i : Input} {p : Picture} {c : Ctb} {sides : Sides} (ctb : CtbOf (i .la
         (luma-in (lumaPlane l .rows) rows y v refl top bottom low high) (omega arith) ev (omega arith) (omega arith)
         ∙ ap (λ (k : ℕ). getD copy k 0) place
 
-    below : (dx dy u : ℕ) → dx ≤ 6 → dy ≤ 3 → u ≡ x + dx - 3 → lumaRead i x y (u, y + dy) ≡ getD copy ((t + 3 + dy) * pitch columns + s + dx) 0
+    below : (dx dy u : ℕ) → dx ≤ 6 → dy ≤ 3 → u ≡ x + dx - 3
+        → lumaRead i x y (u, y + dy) ≡ getD copy ((t + 3 + dy) * pitch columns + s + dx) 0
     below dx dy u hx hy e = neighbour dx (t + 3 + dy) u (y + dy) hx (omega arith) e (omega arith) (omega arith) (omega arith)
 
-    above : (dx dy u : ℕ) → dx ≤ 6 → dy ≤ 3 → u ≡ x + dx - 3 → lumaRead i x y (u, y - dy) ≡ getD copy ((t + 3 - dy) * pitch columns + s + dx) 0
+    above : (dx dy u : ℕ) → dx ≤ 6 → dy ≤ 3 → u ≡ x + dx - 3
+        → lumaRead i x y (u, y - dy) ≡ getD copy ((t + 3 - dy) * pitch columns + s + dx) 0
     above dx dy u hx hy e = neighbour dx (t + 3 - dy) u (y - dy) hx (omega arith) e (omega arith) (omega arith) (omega arith)
 
     here : (dx u : ℕ) → dx ≤ 6 → u ≡ x + dx - 3 → lumaRead i x y (u, y) ≡ getD copy ((t + 3) * pitch columns + s + dx) 0
@@ -145,7 +151,8 @@ module _ {i : Input} {p : Picture} {c : Ctb} {sides : Sides} (ctb : CtbOf (i .la
       with-class : (class : Class) → (class .filter < 25) × (class .transpose < 4) → let starts = startsOf (pitch columns) t r in
           lumaWith i x y class r
           ≡ filtered (p .«bit_depth») (r .shift) (current copy starts s)
-          (tapSum 12 (current copy starts s) (ownCoeff filters class) (ownClip filters class) (plusSamples copy starts s) (minusSamples copy starts s))
+          (tapSum 12 (current copy starts s) (ownCoeff filters class) (ownClip filters class) (plusSamples copy starts s)
+          (minusSamples copy starts s))
       unfolding lumaWith planeOf
       with-class class range =
           let mine : ctbAt (lumaPlane l) x y ≡ c = own-ctb l c sides (ctb .sides) 1 1 4 columns rows inColumns inRows x y x y
@@ -154,7 +161,8 @@ module _ {i : Input} {p : Picture} {c : Ctb} {sides : Sides} (ctb : CtbOf (i .la
           let depth : l .picture .«bit_depth» ≡ p .«bit_depth» = ap (λ (q : Picture). q .«bit_depth») (ctb .picture) in
           let curr = here 3 x (omega arith) (omega arith) in
           (λ k. filtered (depth k) (r .shift) (curr k)
-          (tapSum 12 (curr k) (λ j. lumaF i (mine k) (class .filter) (tapOrder (class .transpose) j)) (λ j. lumaC i (mine k) (class .filter) (tapOrder (class .transpose) j))
+          (tapSum 12 (curr k) (λ j. lumaF i (mine k) (class .filter) (tapOrder (class .transpose) j))
+          (λ j. lumaC i (mine k) (class .filter) (tapOrder (class .transpose) j))
           (plus-is k) (minus-is k)))
           ∙ ap (filtered (p .«bit_depth») (r .shift) _) (taps-same 12 _ _ _
           (λ j h. sym (own .coefficients (class .filter) _ (range .0) (each-below (class .transpose) (range .1) j h)))
@@ -178,7 +186,8 @@ module _ {i : Input} {p : Picture} {c : Ctb} {sides : Sides} (ctb : CtbOf (i .la
     unfolding copySample lumaSample
     sample-same =
         sym (ap₂ (lumaWith i x y) class-is rows-are
-        ∙ with-class (rowsAt (p .height) (g .ctb) y) (luma-offsets _ _) (pieceClass p (g .ctb) copy columns rows (s / 4) (t / 4)) (class-of-range _ _ _))
+        ∙ with-class (rowsAt (p .height) (g .ctb) y) (luma-offsets _ _) (pieceClass p (g .ctb) copy columns rows (s / 4) (t / 4))
+        (class-of-range _ _ _))
 
   -- at index k of the plane
   pub samples-same : (k : ℕ) → inRect (p .width) (columns .start) (columns .end) (rows .start) (rows .end) k ≡ true

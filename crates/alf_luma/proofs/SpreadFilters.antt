@@ -1,4 +1,5 @@
--- The filters of a row of blocks, once they are spread: at each column stands the filter of its block, in the order of its transpose. Assumes nothing.
+-- The filters of a row of blocks, once they are spread: at each column stands the filter of its block, in the order of its transpose.
+-- Assumes nothing.
 use mathlib.Core.Path.{_≡_, refl, ap, _∙_}
 use mathlib.Core.Bool.{Bool, true, false}
 use mathlib.Core.List.{List}
@@ -69,11 +70,13 @@ module _ (filters : List ℤ) (places map : List ℕ) {taps0 taps : List ℤ} (a
       let k : ℕ = 128 * m + x in
       let block : k % 128 / 4 ≡ x / 4 = omega arith in
       let row : k / 128 ≡ m = omega arith in
-      let own : getD map (at + k % 128 / 4) 0 ≡ classNumber (class (x / 4)) = ap (λ (b : ℕ). getD map (at + b) 0) block ∙ numbers (x / 4) (omega arith) in
+      let own : getD map (at + k % 128 / 4) 0 ≡ classNumber (class (x / 4)) = ap (λ (b : ℕ). getD map (at + b) 0) block
+      ∙ numbers (x / 4) (omega arith) in
       let parts = number-parts own (range (x / 4)) in
       fill-in filled k (omega arith) (in-rect 128 0 (4 * count) 0 24 k (omega arith))
       ∙ (λ u. getD filters (24 * parts .0 u + getD places (24 * parts .1 u + row u) 0) (pos 0))
-      ∙ ap (λ (p : ℕ). getD filters (24 * class (x / 4) .filter + p) (pos 0)) (order .entries (class (x / 4) .transpose) m (range (x / 4) .1) hm)
+      ∙ ap (λ (p : ℕ). getD filters (24 * class (x / 4) .filter + p) (pos 0))
+      (order .entries (class (x / 4) .transpose) m (range (x / 4) .1) hm)
 
   coeff-at : (x j : ℕ) → x < 4 * count → j < 12 → spreadCoeff taps x j ≡ ownCoeff filters (class (x / 4)) j
   coeff-at x j hx hj = rw (← (coeff-place (class (x / 4) .transpose) j hj)) (number-at j x (omega arith) hx)

@@ -1,5 +1,5 @@
--- Rows of samples that are filtered with spread filters, by index of the plane: where the filters of a row of blocks are spread, they are the
--- piece's filtered samples. Assumes nothing.
+-- Rows of samples that are filtered with spread filters, by index of the plane: where the filters of a row of blocks are spread, they are
+-- the piece's filtered samples. Assumes nothing.
 use mathlib.Core.Path.{_≡_, sym, ap, _∙_}
 use mathlib.Core.Bool.{true}
 use mathlib.Core.List.{List}
@@ -28,12 +28,15 @@ row-value p ctb copy taps left n top t i k fits run =
     let row : top + i ≡ k / p .width = sym (at .0) in
     let own : t + i ≡ t + (k / p .width - top) = omega arith in
     let column : k - ((top + i) * p .width + left) ≡ k % p .width - left = omega arith in
-    λ u. filteredAt (p .«bit_depth») (rowsAt (p .height) ctb (row u) .shift) copy taps (startsOf (n + 6) (own u) (rowsAt (p .height) ctb (row u))) (column u)
+    λ u. filteredAt (p .«bit_depth») (rowsAt (p .height) ctb (row u) .shift) copy taps
+    (startsOf (n + 6) (own u) (rowsAt (p .height) ctb (row u))) (column u)
 
 module _ (p : Picture) (ctb : ℕ) (copy : List ℕ) (columns rows : Piece) (filters taps : List ℤ) (row : ℕ)
     (spread : RowFilters filters taps (λ b. pieceClass p ctb copy columns rows b row) (extent columns)) where
-  pub blocks-value : (k : ℕ) → inRect (p .width) (columns .start) (columns .end) (rows .start + 4 * row) (rows .start + 4 * row + 4) k ≡ true
-      → spreadSampleAt p ctb copy taps (columns .start) (extent columns) (rows .start + 4 * row) (4 * row) k ≡ copySampleAt p ctb copy columns rows filters k
+  pub blocks-value : (k : ℕ) → inRect (p .width) (columns .start) (columns .end) (rows .start + 4 * row)
+      (rows .start + 4 * row + 4) k ≡ true
+      → spreadSampleAt p ctb copy taps (columns .start) (extent columns) (rows .start + 4 * row) (4 * row) k
+      ≡ copySampleAt p ctb copy columns rows filters k
   unfolding spreadSampleAt filteredAt copySample
   blocks-value k inside =
       let f = rect-facts (p .width) (columns .start) (columns .end) (rows .start + 4 * row) (rows .start + 4 * row + 4) k inside in

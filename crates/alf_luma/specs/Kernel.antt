@@ -1,4 +1,5 @@
--- A filtered sample from the copy of a piece, as the kernel has it: `proofs/PieceSamples` shows it to be that of `alf_spec`. Assumes nothing.
+-- A filtered sample from the copy of a piece, as the kernel has it: `proofs/PieceSamples` shows it to be that of `alf_spec`. Assumes
+-- nothing.
 use mathlib.Core.List.{List, [], _∷_}
 use Prim.Native.Nat.{ℕ, _+_, _-_, _≤_, _<_}
 use lib.IntN.{ℤ}
@@ -18,7 +19,8 @@ module _ (copy : List ℕ) (s : Starts) (x : ℕ) where
   plusSamples =
       getD copy (s .below3 + x + 3) 0
       ∷ getD copy (s .below2 + x + 4) 0 ∷ getD copy (s .below2 + x + 3) 0 ∷ getD copy (s .below2 + x + 2) 0
-      ∷ getD copy (s .below1 + x + 5) 0 ∷ getD copy (s .below1 + x + 4) 0 ∷ getD copy (s .below1 + x + 3) 0 ∷ getD copy (s .below1 + x + 2) 0
+      ∷ getD copy (s .below1 + x + 5) 0 ∷ getD copy (s .below1 + x + 4) 0 ∷ getD copy (s .below1 + x + 3) 0
+      ∷ getD copy (s .below1 + x + 2) 0
       ∷ getD copy (s .below1 + x + 1) 0
       ∷ getD copy (s .here + x + 6) 0 ∷ getD copy (s .here + x + 5) 0 ∷ getD copy (s .here + x + 4) 0
       ∷ []
@@ -28,7 +30,8 @@ module _ (copy : List ℕ) (s : Starts) (x : ℕ) where
   minusSamples =
       getD copy (s .above3 + x + 3) 0
       ∷ getD copy (s .above2 + x + 2) 0 ∷ getD copy (s .above2 + x + 3) 0 ∷ getD copy (s .above2 + x + 4) 0
-      ∷ getD copy (s .above1 + x + 1) 0 ∷ getD copy (s .above1 + x + 2) 0 ∷ getD copy (s .above1 + x + 3) 0 ∷ getD copy (s .above1 + x + 4) 0
+      ∷ getD copy (s .above1 + x + 1) 0 ∷ getD copy (s .above1 + x + 2) 0 ∷ getD copy (s .above1 + x + 3) 0
+      ∷ getD copy (s .above1 + x + 4) 0
       ∷ getD copy (s .above1 + x + 5) 0
       ∷ getD copy (s .here + x + 0) 0 ∷ getD copy (s .here + x + 1) 0 ∷ getD copy (s .here + x + 2) 0
       ∷ []

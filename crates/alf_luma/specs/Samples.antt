@@ -44,7 +44,8 @@ startsOf pitch t r = record {
   below3 = (t + 3 + r .y3) * pitch;
 }
 
--- at index k of the plane, with filters that are spread over n columns from column `left` on; row `top` of the picture is row t of the piece
+-- at index k of the plane, with filters that are spread over n columns from column `left` on; row `top` of the picture is row t of the
+-- piece
 unfoldable pub spreadSampleAt : Picture → ℕ → List ℕ → List ℤ → ℕ → ℕ → ℕ → ℕ → ℕ → ℕ
 spreadSampleAt p ctb copy taps left n top t k =
     let y = k / p .width in
@@ -54,7 +55,8 @@ spreadSampleAt p ctb copy taps left n top t k =
 module _ (p : Picture) (ctb : ℕ) (copy : List ℕ) (columns rows : Piece) where
   -- the class of the block at column b and row r of the piece, counted in blocks
   abbrev pub pieceClass : ℕ → ℕ → Class
-  pieceClass b r = classOf (p .«bit_depth») (rowWindow (p .height) ctb (rows .start + 4 * r)) (copyWindow copy (pitch columns) (4 * b) (4 * r))
+  pieceClass b r = classOf (p .«bit_depth») (rowWindow (p .height) ctb (rows .start + 4 * r))
+      (copyWindow copy (pitch columns) (4 * b) (4 * r))
 
   -- a map of 32 blocks a row holds their class numbers
   abbrev pub MapOf : List ℕ → Type 0
@@ -103,7 +105,8 @@ pub record PieceCopy (p : Picture) (columns rows : Piece) (copy : List ℕ) : Ty
   pub samples : (k : ℕ) → k < copyLength columns rows → getD copy k 0 < 4096
 
 -- and the picture's luma samples, with room for the copy of a piece and for its differences
-pub record LumaWork (p : Picture) (g : Grid) (luma : List ℕ) (filters : List ℤ) (places : List ℕ) (copy differences : ℕ) (taps : List ℤ) (output : ℕ) : Type 0 where
+pub record LumaWork (p : Picture) (g : Grid) (luma : List ℕ) (filters : List ℤ) (places : List ℕ) (copy differences : ℕ) (taps : List ℤ)
+    (output : ℕ) : Type 0 where
   pub work : FilterWork p g filters places taps output
   pub lumaLength : length luma ≡ p .width * p .height
   pub samples : (k : ℕ) → getD luma k 0 < 4096

@@ -1,5 +1,5 @@
-// A row of filtered samples, from the copy of a piece. One loop over the columns, with all twelve taps in its body and loads and stores of 16 bits
-// only: so the compiler makes vectors of eight columns.
+// A row of filtered samples, from the copy of a piece. One loop over the columns, with all twelve taps in its body and loads and stores of
+// 16 bits only: so the compiler makes vectors of eight columns.
 ghost use mathlib.Core.Path.{_≡_};
 ghost use Prim.Native.Nat.{_+_, _-_, _≤_, _<_};
 ghost use lib.ListN.{length};
@@ -63,7 +63,8 @@ pub(crate) fn luma_row(
     from: usize,
     n: usize,
 )
-    requires { ⌜ (RowReads (now copy) s n) × (TapNumbers (now taps)) × (n ≤ 128) × (shift < 32) × (depth ≤ 12) × (from + n ≤ length (now output)) ⌝ }
+    requires { ⌜ (RowReads (now copy) s n) × (TapNumbers (now taps)) × (n ≤ 128) × (shift < 32) × (depth ≤ 12)
+        × (from + n ≤ length (now output)) ⌝ }
     ensures { λ _. ⌜ now (output .exit) ≡ painted (now (output .entry)) (between from n)
         (rowFrom depth shift (now (copy .entry)) (now (taps .entry)) s from) ⌝ }
 {

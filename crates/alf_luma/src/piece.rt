@@ -15,7 +15,8 @@ ghost use Rattle.alf_pieces.specs.Copies.{extent as extentOf};
 ghost use Rattle.alf_taps.specs.Spread.{TapNumbers};
 ghost use Rattle.alf_luma.specs.Kernel.{rowFrom};
 ghost use Rattle.alf_params.specs.Filters.{LumaFilters};
-ghost use Rattle.alf_luma.specs.Samples.{rowsAt, startsOf, spreadSampleAt, MapOf, copySampleAt, Accepted, FilterWork, PieceCopy, LumaWork};
+ghost use Rattle.alf_luma.specs.Samples.{rowsAt, startsOf, spreadSampleAt, MapOf, copySampleAt, Accepted, FilterWork, PieceCopy};
+ghost use Rattle.alf_luma.specs.Samples.{LumaWork};
 use crate::kernel::Starts;
 use crate::kernel::luma_row;
 use crate::rows::luma_rows;
@@ -91,7 +92,8 @@ fn filter_four(
     output: &mut [u16],
 )
     requires { ⌜ (Accepted picture grid) × (left + n ≤ picture .width) × (n ≤ 128) × (top + 4 ≤ picture .height) × (t + 4 ≤ 128)
-        × ((t + 10) * (n + 6) ≤ length (now copy)) × ((k : ℕ) → k < (t + 10) * (n + 6) → getD (now copy) k 0 < 4096) × (TapNumbers (now taps))
+        × ((t + 10) * (n + 6) ≤ length (now copy)) × ((k : ℕ) → k < (t + 10) * (n + 6) → getD (now copy) k 0 < 4096)
+        × (TapNumbers (now taps))
         × (length (now output) ≡ picture .width * picture .height) ⌝ }
     ensures { λ _. ⌜ now (output .exit) ≡ painted (now (output .entry)) (inRect (picture .width) left (left + n) top (top + 4))
         (spreadSampleAt picture (grid .ctb) (now (copy .entry)) (now (taps .entry)) left n top t) ⌝ }
@@ -131,7 +133,8 @@ fn filter_blocks(
     taps: &mut [i16],
     output: &mut [u16],
 )
-    requires { ⌜ (FilterWork picture grid (now filters) (now places) (now taps) (length (now output))) × (PieceCopy picture columns rows (now copy))
+    requires { ⌜ (FilterWork picture grid (now filters) (now places) (now taps) (length (now output)))
+        × (PieceCopy picture columns rows (now copy))
         × (length (now map) ≡ 1024) × (MapOf picture (grid .ctb) (now copy) columns rows (now map)) × (row < extentOf rows / 4) ⌝ }
     ensures { λ _. ⌜ (now (output .exit) ≡ painted (now (output .entry))
         (inRect (picture .width) (columns .start) (columns .end) (rows .start + 4 * row) (rows .start + 4 * row + 4))
@@ -157,7 +160,8 @@ fn filter_copy(
     taps: &mut [i16],
     output: &mut [u16],
 )
-    requires { ⌜ (FilterWork picture grid (now filters) (now places) (now taps) (length (now output))) × (PieceCopy picture columns rows (now copy))
+    requires { ⌜ (FilterWork picture grid (now filters) (now places) (now taps) (length (now output)))
+        × (PieceCopy picture columns rows (now copy))
         × (length (now map) ≡ 1024) × (MapOf picture (grid .ctb) (now copy) columns rows (now map)) ⌝ }
     ensures { λ _. ⌜ (now (output .exit) ≡ painted (now (output .entry))
         (inRect (picture .width) (columns .start) (columns .end) (rows .start) (rows .end))
@@ -183,7 +187,8 @@ fn filter_copy(
     }
 }
 
-// The samples of a piece, filtered: those of every input in which a CTB has these sides and these filters, and the piece is one of its pieces.
+// The samples of a piece, filtered: those of every input in which a CTB has these sides and these filters, and the piece is one of its
+// pieces.
 pub fn filter_piece(
     picture: Picture,
     grid: Grid,
@@ -198,12 +203,15 @@ pub fn filter_piece(
     taps: &mut [i16],
     output: &mut [u16],
 )
-    requires { ⌜ (LumaWork picture grid (now luma) (now filters) (now places) (length (now copy)) (length (now differences)) (now taps) (length (now output)))
+    requires { ⌜ (LumaWork picture grid (now luma) (now filters) (now places) (length (now copy)) (length (now differences)) (now taps)
+        (length (now output)))
         × (BlockPiece (picture .width) columns) × (BlockPiece (picture .height) rows) ⌝ }
-    ensures { λ _. ⌜ ((i : Input) (c : Ctb) → CtbOf (i .layout) picture c sides → i .luma ≡ now (luma .entry) → LumaFilters i c (now (filters .entry))
+    ensures { λ _. ⌜ ((i : Input) (c : Ctb) → CtbOf (i .layout) picture c sides → i .luma ≡ now (luma .entry)
+        → LumaFilters i c (now (filters .entry))
         → PieceOf (lumaPlane (i .layout) .columns) (columnSide (i .layout) c) (c .column) columns
         → PieceOf (lumaPlane (i .layout) .rows) (rowSide (i .layout) c) (c .row) rows
-        → now (output .exit) ≡ painted (now (output .entry)) (inRect (picture .width) (columns .start) (columns .end) (rows .start) (rows .end))
+        → now (output .exit) ≡ painted (now (output .entry))
+        (inRect (picture .width) (columns .start) (columns .end) (rows .start) (rows .end))
         (atIndex (lumaPlane (i .layout)) (lumaSample i))) × (TapNumbers (now (taps .exit))) ⌝ }
 {
     copy_piece(luma, picture.width as usize, columns, rows, sides, copy);

@@ -9,7 +9,8 @@ use borrow.Author.Tests.{ltb-true}
 use Rattle.alf_spec.specs.declared.Sums.{Sums}
 use Rattle.alf_spec.specs.declared.Gradient.{Gradient}
 use Rattle.alf_spec.specs.Lists.{everyFrom, every}
-use Rattle.alf_spec.specs.Classes.{activityTable, transposeTable, gradient, larger, hv, dd, diagonal, mainGradient, otherGradient, strength, activity, transposeIdx, filtIdx, classOfSums}
+use Rattle.alf_spec.specs.Classes.{activityTable, transposeTable, gradient, larger, hv, dd, diagonal, mainGradient, otherGradient, strength}
+use Rattle.alf_spec.specs.Classes.{activity, transposeIdx, filtIdx, classOfSums}
 use Rattle.alf_spec.specs.Process.{classNumber}
 use Rattle.alf_spec.proofs.Tests.{both, cond-either, every-at}
 

@@ -92,7 +92,8 @@ pub few-in-layout : (l : Layout) → pictureSizeValid (l .picture) ≡ true → 
 unfolding planeOf
 few-in-layout l sizes log2 =
     let s = ctb-bounds (l .picture) sizes log2 in
-    mul-le-mul (along-bounds _ _ s (width-bounds (l .picture) sizes log2) .1) (along-bounds _ _ s (height-bounds (l .picture) sizes log2) .1)
+    mul-le-mul (along-bounds _ _ s (width-bounds (l .picture) sizes log2) .1)
+    (along-bounds _ _ s (height-bounds (l .picture) sizes log2) .1)
 
 -- the grid's numbers are the layout's
 module _ (l : Layout) (g : Grid) (h : GridOf (l .picture) g) where

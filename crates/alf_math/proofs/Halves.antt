@@ -17,7 +17,8 @@ by-digits : (w a1 a0 b1 b0 : ℕ) → (a1 * w + a0) * (b1 * w + b0) ≡ a1 * b1 
 by-digits w a1 a0 b1 b0 = simp (mul-add, add-mul, mul-assoc, mul-comm, mul-left-comm, add-assoc, add-comm, add-left-comm) refl
 
 -- the four products of halves, each in its column
-pub by-halves : (a b : ℕ) → a * b ≡ a / 2 ^ 16 * (b / 2 ^ 16) * 2 ^ 32 + a / 2 ^ 16 * (b % 2 ^ 16) * 2 ^ 16 + a % 2 ^ 16 * (b / 2 ^ 16) * 2 ^ 16 + a % 2 ^ 16 * (b % 2 ^ 16)
+pub by-halves : (a b : ℕ) → a * b ≡ a / 2 ^ 16 * (b / 2 ^ 16) * 2 ^ 32 + a / 2 ^ 16 * (b % 2 ^ 16) * 2 ^ 16 + a % 2 ^ 16 * (b / 2 ^ 16)
+    * 2 ^ 16 + a % 2 ^ 16 * (b % 2 ^ 16)
 by-halves a b =
     (λ i. sym (div-add-mod' a (2 ^ 16)) i * sym (div-add-mod' b (2 ^ 16)) i)
     ∙ by-digits (2 ^ 16) (a / 2 ^ 16) (a % 2 ^ 16) (b / 2 ^ 16) (b % 2 ^ 16)

@@ -112,9 +112,11 @@ between-levels : (m : ℕ) (v : ℤ) → ltZ v (pos 0) ≡ false → ltZ (pos m)
 between-levels m (pos n) p q = (tt, ltb-false m n q)
 between-levels m (negsuc n) p q = absurd (true≢false p)
 
--- a clip is the smaller of v and the upper end, then the larger of that and the lower end, where the lower end is above no number that is not negative
+-- a clip is the smaller of v and the upper end, then the larger of that and the lower end, where the lower end is above no number that is
+-- not negative
 module _ (low : ℤ) (n : ℕ) (below : (k : ℕ) → ltZ (pos k) low ≡ false) where
-  by-levels : (m : ℕ) (t : Bool) → ltb m n ≡ t → cond (ltZ (cond t (pos m) (pos n)) low) low (cond t (pos m) (pos n)) ≡ cond (ltb n m) (pos n) (pos m)
+  by-levels : (m : ℕ) (t : Bool) → ltb m n ≡ t → cond (ltZ (cond t (pos m) (pos n)) low) low (cond t (pos m) (pos n)) ≡ cond
+      (ltb n m) (pos n) (pos m)
   by-levels m true p = rw (below m, le-ltb n m (omega (arith, ltb-true m n p)))
   by-levels m false p = rw (below n) (equal (ltb n m) refl)
     where

@@ -1,9 +1,10 @@
-// The class and the transpose of a block, from the sums over its window. What decides a class has no number wider than 32 bits, and multiplies
-// nowhere but in `products`, 16 bits by 16: other multiples are sums and shifts (02, card 3).
+// The class and the transpose of a block, from the sums over its window. What decides a class has no number wider than 32 bits, and
+// multiplies nowhere but in `products`, 16 bits by 16: other multiples are sums and shifts (02, card 3).
 ghost use mathlib.Core.Path.{_≡_};
 ghost use Prim.Native.Nat.{_+_, _*_, _/_, _^_, _≤_, _<_, min};
 ghost use lib.ListN.{getD};
-ghost use Rattle.alf_spec.specs.Classes.{larger as largerOf, diagonal, strength as strengthOf, activity as activityOf, transposeTable, transposeIdx, filtIdx, classOfSums};
+ghost use Rattle.alf_spec.specs.Classes.{larger as largerOf, diagonal, strength as strengthOf, activity as activityOf, transposeTable};
+ghost use Rattle.alf_spec.specs.Classes.{transposeIdx, filtIdx, classOfSums};
 use crate::products::product_less;
 use crate::tables::activity_entry;
 use crate::tables::transpose_entry;

@@ -1,5 +1,5 @@
-// Leaves on integers: the standard's tables, clipping and rounding, taps, class windows, the direction test, and the CTB grid. Each equals its
-// definition of `alf_spec`.
+// Leaves on integers: the standard's tables, clipping and rounding, taps, class windows, the direction test, and the CTB grid. Each equals
+// its definition of `alf_spec`.
 pub mod direction;
 pub mod grid;
 pub mod products;

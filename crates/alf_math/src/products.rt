@@ -29,8 +29,8 @@ fn times(a: u16, b: u16) -> u32
     (a as u32) * (b as u32)
 }
 
-// By hand in base 2^16, column by column: what a column carries goes into the next one up. The middle column takes its two products one after the
-// other, so that no sum needs a 33rd bit.
+// By hand in base 2^16, column by column: what a column carries goes into the next one up. The middle column takes its two products one
+// after the other, so that no sum needs a 33rd bit.
 fn multiply(a: u32, b: u32) -> Product
     ensures { λ r. ⌜ r .high * 2 ^ 32 + r .low ≡ a * b ⌝ }
 {

@@ -1,5 +1,5 @@
-// A tap: a coefficient at two neighbours that lie opposite each other. Differences and clips are 16 bits wide, so that a vector of 128 bits holds
-// eight of them; the product is 32 bits.
+// A tap: a coefficient at two neighbours that lie opposite each other. Differences and clips are 16 bits wide, so that a vector of 128 bits
+// holds eight of them; the product is 32 bits.
 ghost use mathlib.Core.Path.{_≡_};
 ghost use Prim.Native.Nat.{_<_};
 ghost use Rattle.alf_spec.specs.Arithmetic.{clippedChange, tap as tapOf};

@@ -1,4 +1,5 @@
--- A luma position of an accepted picture: its CTB is in the grid, and the rule along an axis as code has it is that of the luma plane. Assumes nothing.
+-- A luma position of an accepted picture: its CTB is in the grid, and the rule along an axis as code has it is that of the luma plane.
+-- Assumes nothing.
 use mathlib.Core.Path.{_≡_, refl, sym, _∙_}
 use Prim.Native.Nat.{ℕ, suc, _+_, _-_, _*_, _/_, _≤_, _<_}
 use native.Mathlib.Nat.{mul-one, div-mul-le-self, le-div-iff-mul-le}
@@ -22,7 +23,8 @@ use Rattle.alf_boundary.proofs.Tables.{tables-of}
 in-along : (s n x : ℕ) {count : ℕ} → 0 < s → count ≡ (n + (s - 1)) / s → x < n → x / s < count
 in-along s n x positive e h = rw e (le-div-iff-mul-le {k = s} {x = suc (x / s)} positive .1 (omega (arith, div-mul-le-self x s)))
 
-module _ (l : Layout) (ok : Accepted l) {g : Grid} (h : GridOf (l .picture) g) (x y : ℕ) (column : x < l .picture .width) (row : y < l .picture .height) where
+module _ (l : Layout) (ok : Accepted l) {g : Grid} (h : GridOf (l .picture) g) (x y : ℕ) (column : x < l .picture .width)
+    (row : y < l .picture .height) where
   -- the position's CTB
   abbrev pub own : Ctb
   own = record { column = x / g .ctb; row = y / g .ctb }
@@ -31,8 +33,12 @@ module _ (l : Layout) (ok : Accepted l) {g : Grid} (h : GridOf (l .picture) g) (
       × (x / g .ctb < g .columns) × (y / g .ctb < g .rows)
   unfolding ctbsAlong
   in-grid =
-      let positive : 0 < g .ctb = omega (arith, h .ctbLow) in
-      (h, tables-of l g h ok, in-along _ _ x positive (rw (h .ctb) (h .columns)) column, in-along _ _ y positive (rw (h .ctb) (h .rows)) row)
+      let positive : 0 < g .ctb = omega (arith, h .ctbLow) in (
+        h,
+        tables-of l g h ok,
+        in-along _ _ x positive (rw (h .ctb) (h .columns)) column,
+        in-along _ _ y positive (rw (h .ctb) (h .rows)) row,
+      )
 
   pub bounded : InCtb (x / g .ctb * g .ctb) (g .ctb) 0 x × InCtb (y / g .ctb * g .ctb) (g .ctb) 4 y
   bounded =
@@ -50,11 +56,13 @@ module _ (l : Layout) (ok : Accepted l) {g : Grid} (h : GridOf (l .picture) g) (
   Along a u d k r = (sides : Side → ClipCause) → sides d ≡ k → r ≡ causeOf (clip a u sides d)
 
   module _ (d : Side) {k r : ClipCause} where
-    column-cause : k ≡ columnSide l own d → Along (axisOf (l .picture .width) (g .ctb) (l .virtualColumns) 0 1) x d k r → r ≡ columnCause l x y d
+    column-cause : k ≡ columnSide l own d → Along (axisOf (l .picture .width) (g .ctb) (l .virtualColumns) 0 1) x d k r
+        → r ≡ columnCause l x y d
     unfolding columnCause planeOf
     column-cause e f =
         f (columnSide l own) (sym e)
-        ∙ (λ t. causeOf (clip (axisOf (l .picture .width) (h .ctb t) (l .virtualColumns) 0 1) (sym (mul-one x) t) (columnSide l (own-is t)) d))
+        ∙ (λ t. causeOf (clip (axisOf (l .picture .width) (h .ctb t) (l .virtualColumns) 0 1) (sym (mul-one x) t)
+        (columnSide l (own-is t)) d))
 
     row-cause : k ≡ rowSide l own d → Along (axisOf (l .picture .height) (g .ctb) (l .virtualRows) 4 1) y d k r → r ≡ rowCause l x y d
     unfolding rowCause planeOf

@@ -9,8 +9,8 @@ use alf_spec::Answer;
 use alf_spec::Picture;
 use alf_validate::judge_chroma;
 
-// The lowest fault of the input, and the output stays as it was; or the output is the plane of the component, 0 (Cb) or 1 (Cr), with each listed
-// CTB whose flag is on filtered.
+// The lowest fault of the input, and the output stays as it was; or the output is the plane of the component, 0 (Cb) or 1 (Cr), with each
+// listed CTB whose flag is on filtered.
 pub fn chroma(
     picture: Picture,
     virtual_columns: &[u16],
@@ -31,7 +31,8 @@ pub fn chroma(
     ensures { λ r. ⌜ (
         let layout = layoutOf picture (now («virtual_columns» .entry)) (now («virtual_rows» .entry)) (now («tile_columns» .entry))
         (now («tile_rows» .entry)) (now («slice_map» .entry)) (now («subpic_map» .entry)) (now («subpic_across» .entry)) in
-        let input = chromaInput layout (now («slice_params» .entry)) (now (bank .entry)) (now («ctb_params» .entry)) (now («ctb_list» .entry)) (now (chroma .entry))
+        let input = chromaInput layout (now («slice_params» .entry)) (now (bank .entry)) (now («ctb_params» .entry))
+        (now («ctb_list» .entry)) (now (chroma .entry))
         (length (now (output .entry))) in
         Ran (chromaOf component) input (number r) (now (output .entry)) (now (output .exit))) ⌝ }
 {

@@ -9,8 +9,8 @@ use alf_spec::Answer;
 use alf_spec::Picture;
 use alf_validate::judge_cross_component;
 
-// The lowest fault of the input, and the output stays as it was; or the output is the plane of the component, which is filtered already, with each
-// listed CTB whose index is on corrected from luma, which is not filtered.
+// The lowest fault of the input, and the output stays as it was; or the output is the plane of the component, which is filtered already,
+// with each listed CTB whose index is on corrected from luma, which is not filtered.
 pub fn cross_component(
     picture: Picture,
     virtual_columns: &[u16],
@@ -32,7 +32,8 @@ pub fn cross_component(
     ensures { λ r. ⌜ (
         let layout = layoutOf picture (now («virtual_columns» .entry)) (now («virtual_rows» .entry)) (now («tile_columns» .entry))
         (now («tile_rows» .entry)) (now («slice_map» .entry)) (now («subpic_map» .entry)) (now («subpic_across» .entry)) in
-        let input = crossInput layout (now («slice_params» .entry)) (now (bank .entry)) (now («ctb_params» .entry)) (now («ctb_list» .entry)) (now (luma .entry)) (now (chroma .entry))
+        let input = crossInput layout (now («slice_params» .entry)) (now (bank .entry)) (now («ctb_params» .entry))
+        (now («ctb_list» .entry)) (now (luma .entry)) (now (chroma .entry))
         (length (now (output .entry))) in
         Ran (crossComponent component) input (number r) (now (output .entry)) (now (output .exit))) ⌝ }
 {

@@ -9,8 +9,8 @@ use alf_spec::Answer;
 use alf_spec::Picture;
 use alf_validate::judge_luma;
 
-// The lowest fault of the input, and the output stays as it was; or the output is the luma plane with each listed CTB whose flag is on filtered. The
-// classes are worked out here.
+// The lowest fault of the input, and the output stays as it was; or the output is the luma plane with each listed CTB whose flag is on
+// filtered. The classes are worked out here.
 pub fn luma(
     picture: Picture,
     virtual_columns: &[u16],
@@ -32,7 +32,8 @@ pub fn luma(
     ensures { λ r. ⌜ (
         let layout = layoutOf picture (now («virtual_columns» .entry)) (now («virtual_rows» .entry)) (now («tile_columns» .entry))
         (now («tile_rows» .entry)) (now («slice_map» .entry)) (now («subpic_map» .entry)) (now («subpic_across» .entry)) in
-        let input = lumaInput layout (now («slice_params» .entry)) (now (bank .entry)) (now («ctb_params» .entry)) (now («ctb_list» .entry)) (now («fixed_filters» .entry)) (now («fixed_map» .entry)) (now (luma .entry))
+        let input = lumaInput layout (now («slice_params» .entry)) (now (bank .entry)) (now («ctb_params» .entry)) (now («ctb_list» .entry))
+        (now («fixed_filters» .entry)) (now («fixed_map» .entry)) (now (luma .entry))
         (length (now (output .entry))) in
         Ran lumaOf input (number r) (now (output .entry)) (now (output .exit))) ⌝ }
 {

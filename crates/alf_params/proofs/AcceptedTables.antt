@@ -16,7 +16,9 @@ use Rattle.alf_spec.specs.Lists.{implies, allBelow, everyFrom}
 use Rattle.alf_spec.specs.Input.{Operation, given, Input}
 use Rattle.alf_spec.specs.Geometry.{ctbColumns, ctbTotal, ctbOf}
 use Rattle.alf_spec.specs.Parameters.{lumaFlag, chromaFlag, lumaSet, chromaAlternative, crossIndex, lumaApsCount}
-use Rattle.alf_spec.specs.Faults.{bitDepthValid, filterLengthsValid, fixedLengthsValid, lengthsValid, slicesValid, sliceParamsValid, ctbRangesValid, ctbParamsValidAt, parametersValid, coeffValid, clipValid, isClip, bankNumberValid, bankValid, fixedValid, tablesFault, fault}
+use Rattle.alf_spec.specs.Faults.{bitDepthValid, filterLengthsValid, fixedLengthsValid, lengthsValid, slicesValid, sliceParamsValid}
+use Rattle.alf_spec.specs.Faults.{ctbRangesValid, ctbParamsValidAt, parametersValid, coeffValid, clipValid, isClip, bankNumberValid}
+use Rattle.alf_spec.specs.Faults.{bankValid, fixedValid, tablesFault, fault}
 use Rattle.alf_spec.proofs.Tests.{both, implied, within-bounds, all-at, every-at, every-entry}
 use Rattle.alf_spec.proofs.Accepted.{passed, accepted, table-lengths}
 use Rattle.alf_math.specs.Integers.{CoeffRange, ClipRange}
@@ -54,7 +56,8 @@ module _ (bank : List ℤ) {depth : ℕ} (small : depth ≤ 12) (valid : everyFr
 
   bank-clip : (n : ℕ) → isClip (n % 752) ≡ true → ClipRange (getD bank n (pos 0))
   unfolding bankNumberValid
-  bank-clip n q = ⊎-elim (λ e. clip-range depth small _ (rw q at e)) (λ e. rw e (record { level = refl; small = omega arith })) (number-valid n)
+  bank-clip n q = ⊎-elim (λ e. clip-range depth small _ (rw q at e)) (λ e. rw e (record { level = refl; small = omega arith }))
+      (number-valid n)
 
 -- ---- the CTB at an address
 
@@ -168,7 +171,8 @@ module _ (op : Operation) (i : Input) (ok : fault op i ≡ 0) where
   unfolding fixedLengthsValid fixedValid
   accepted-fixed fixed =
       let counts = both (eqb (length (i .fixedFilters)) (64 * 12)) _ (implied (given op .fixed) (fixedLengthsValid i) (lengths .1) fixed) in
-      let valid = both (everyFrom 0 (λ _ z. coeffValid z) (i .fixedFilters)) _ (implied (given op .fixed) (fixedValid i) (tables .2) fixed) in
+      let valid = both (everyFrom 0 (λ _ z. coeffValid z) (i .fixedFilters)) _
+      (implied (given op .fixed) (fixedValid i) (tables .2) fixed) in
       record {
         bitDepth = accepted-depth;
         filterCount = eqb-true _ _ (counts .0);

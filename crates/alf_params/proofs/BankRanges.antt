@@ -28,7 +28,8 @@ module _ (filter j : ℕ) (class : filter < 25) (tap : j < 12) where
 
   luma-clip-place : isClip (24 * filter + (12 + j)) ≡ true
   unfolding isClip
-  luma-clip-place = rw (lt-ltb (24 * filter + (12 + j)) 600 (omega arith), place-in 24 filter (12 + j) (omega arith)) (le-leb 12 (12 + j) (omega arith))
+  luma-clip-place = rw (lt-ltb (24 * filter + (12 + j)) 600 (omega arith), place-in 24 filter (12 + j) (omega arith))
+      (le-leb 12 (12 + j) (omega arith))
 
 module _ (alternative j : ℕ) (few : alternative ≤ 7) where
   -- what stands there, counted from the first alternative on
@@ -64,10 +65,12 @@ module _ {bank : List ℤ} (b : BankNumbers bank) (aps : ℕ) where
   pub luma-clip : (filter j : ℕ) → filter < 25 → j < 12 → ClipRange (getD bank (752 * aps + (24 * filter + (12 + j))) (pos 0))
   luma-clip filter j class tap = clip _ (omega arith) (luma-clip-place filter j class tap)
 
-  pub chroma-coefficient : (alternative j : ℕ) → alternative ≤ 7 → j < 6 → CoeffRange (getD bank (752 * aps + (600 + 12 * alternative + j)) (pos 0))
+  pub chroma-coefficient : (alternative j : ℕ) → alternative ≤ 7 → j < 6
+      → CoeffRange (getD bank (752 * aps + (600 + 12 * alternative + j)) (pos 0))
   chroma-coefficient alternative j few h = coefficient _ (omega arith) (chroma-coefficient-place alternative j few h)
 
-  pub chroma-clip : (alternative j : ℕ) → alternative ≤ 7 → 6 ≤ j → j < 12 → ClipRange (getD bank (752 * aps + (600 + 12 * alternative + j)) (pos 0))
+  pub chroma-clip : (alternative j : ℕ) → alternative ≤ 7 → 6 ≤ j → j < 12
+      → ClipRange (getD bank (752 * aps + (600 + 12 * alternative + j)) (pos 0))
   chroma-clip alternative j few l h = clip _ (omega arith) (chroma-clip-place alternative j few l h)
 
   pub cross-coefficient : (p : ℕ) → 696 ≤ p → p < 752 → CoeffRange (getD bank (752 * aps + p) (pos 0))

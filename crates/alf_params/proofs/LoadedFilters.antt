@@ -22,7 +22,8 @@ use Rattle.alf_params.specs.Filters.{LumaFilters, FilterNumbers, ChromaF
 use Rattle.alf_params.specs.Tables.{sliceNumber, ctbNumber, CtbTables, FixedTables, TablesOf, FixedOf}
 use Rattle.alf_params.specs.Numbers.{copiedFrom, fixedNumber}
 use Rattle.alf_params.proofs.TableNumbers.{own-number, slice-number, bank-number}
-use Rattle.alf_params.proofs.BankRanges.{place-in, piece-of, luma-coefficient, luma-clip, chroma-coefficient, chroma-clip, cross-coefficient}
+use Rattle.alf_params.proofs.BankRanges.{place-in, piece-of, luma-coefficient, luma-clip, chroma-coefficient, chroma-clip}
+use Rattle.alf_params.proofs.BankRanges.{cross-coefficient}
 
 -- an array that a caller fills with 0
 pub zeros : (n j : ℕ) → getD (replicate n (pos 0)) j (pos 0) ≡ pos 0
@@ -54,14 +55,16 @@ module _ {sliceMap sliceParams ctbParams : List ℕ} {bank : List ℤ} {k : ℕ}
 
     pub chroma-clips : (j : ℕ) → j < 6 → ClipRange (getD ys (6 + j) (pos 0))
     chroma-clips j h =
-        rw (chroma-number (6 + j) _ (omega arith) refl) (chroma-clip (T .bankNumbers) aps alternative (6 + j) few (omega arith) (omega arith))
+        rw (chroma-number (6 + j) _ (omega arith) refl)
+        (chroma-clip (T .bankNumbers) aps alternative (6 + j) few (omega arith) (omega arith))
 
     pub chroma-filter : (i : Input) (c : Ctb) → TablesOf i c sliceMap sliceParams bank ctbParams k → ChromaFilter i c component ys
     chroma-filter i c t = record {
       coefficients = λ j h.
           rw (slice-number t 8, own-number t (4 + component), ← a, ← v, bank-number t) (chroma-number j _ (omega arith) refl);
       clips = λ j h.
-          rw (slice-number t 8, own-number t (4 + component), ← a, ← v, bank-number t) (chroma-number (6 + j) _ (omega arith) (omega arith));
+          rw (slice-number t 8, own-number t (4 + component), ← a, ← v, bank-number t)
+          (chroma-number (6 + j) _ (omega arith) (omega arith));
     }
 
   -- a filter of the slice's cross-component APS; what is not written is 0
@@ -90,7 +93,8 @@ module _ {sliceMap sliceParams ctbParams : List ℕ} {bank : List ℤ} {k : ℕ}
         rw (slice-number t (9 + component), own-number t (6 + component), ← a, ← v, bank-number t) (cross-number j h)
 
   -- the filters of one of the slice's luma APSs
-  module _ {set aps : ℕ} (v : set ≡ ctbNumber ctbParams k 3) (late : 16 ≤ set) (a : aps ≡ sliceNumber sliceMap sliceParams k (1 + (set - 16)))
+  module _ {set aps : ℕ} (v : set ≡ ctbNumber ctbParams k 3) (late : 16 ≤ set)
+      (a : aps ≡ sliceNumber sliceMap sliceParams k (1 + (set - 16)))
       (P : Filled (pos 0) xs (between 0 600) (copiedFrom bank (752 * aps) 0) ys) where
     aps-number : (j p : ℕ) → j < 600 → j ≡ p → getD ys j (pos 0) ≡ getD bank (752 * aps + p) (pos 0)
     aps-number j p h e = copied bank _ _ P (omega arith) j _ h (omega arith)
@@ -98,7 +102,8 @@ module _ {sliceMap sliceParams ctbParams : List ℕ} {bank : List ℤ} {k : ℕ}
     pub aps-numbers : FilterNumbers ys
     aps-numbers = record {
       count = P .len ∙ room;
-      coefficients = λ f j class tap. rw (aps-number (24 * f + j) _ (omega arith) refl) (luma-coefficient (T .bankNumbers) aps f j class tap);
+      coefficients = λ f j class tap. rw (aps-number (24 * f + j) _ (omega arith) refl)
+          (luma-coefficient (T .bankNumbers) aps f j class tap);
       clips = λ f j class tap. rw (aps-number (24 * f + (12 + j)) _ (omega arith) refl) (luma-clip (T .bankNumbers) aps f j class tap);
     }
 

@@ -31,8 +31,10 @@ const CLASSES: usize = 25;
 
 // n numbers of a table from `from` on, to the places from `to` on.
 fn copy_numbers(table: &[i16], from: usize, n: usize, filters: &mut [i16], to: usize)
-    requires { ⌜ (from + n ≤ length (now table)) × (to + n ≤ length (now filters)) × ((k : ℕ) → natAbs (getD (now table) k (pos 0)) ≤ 4096) ⌝ }
-    ensures { λ _. ⌜ Filled (pos 0) (now (filters .entry)) (between to n) (copiedFrom (now (table .entry)) from to) (now (filters .exit)) ⌝ }
+    requires { ⌜ (from + n ≤ length (now table)) × (to + n ≤ length (now filters))
+        × ((k : ℕ) → natAbs (getD (now table) k (pos 0)) ≤ 4096) ⌝ }
+    ensures { λ _. ⌜ Filled (pos 0) (now (filters .entry)) (between to n) (copiedFrom (now (table .entry)) from to)
+        (now (filters .exit)) ⌝ }
 {
     let mut j: usize = 0;
     while j < n {
@@ -129,7 +131,8 @@ pub fn load_cross(
         × ((j : ℕ) → getD (now filters) j (pos 0) ≡ pos 0) ⌝ }
     ensures { λ _. ⌜ ((j : ℕ) → CoeffRange (getD (now (filters .exit)) j (pos 0))) × ((i : Input) (c : Ctb)
         → TablesOf i c (now («slice_map» .entry)) (now («slice_params» .entry)) (now (bank .entry)) (now («ctb_params» .entry)) k
-        → (j : ℕ) → j < 7 → getD (now (filters .exit)) j (pos 0) ≡ crossCoeff i (crossAps i c component) component (crossIndex i c component - 1) j) ⌝ }
+        → (j : ℕ) → j < 7 → getD (now (filters .exit)) j (pos 0) ≡ crossCoeff i (crossAps i c component) component
+        (crossIndex i c component - 1) j) ⌝ }
 {
     let component = component as usize;
     let aps = slice_number(slice_map, slice_params, k, 9 + component) as usize;

@@ -1,5 +1,5 @@
--- The copy of a piece, as `copy_piece` leaves it, holds for a sample of the piece its neighbours in reach: those that `alf_spec` reads. Assumes
--- nothing.
+-- The copy of a piece, as `copy_piece` leaves it, holds for a sample of the piece its neighbours in reach: those that `alf_spec` reads.
+-- Assumes nothing.
 use mathlib.Core.Path.{_≡_, sym, ap, _∙_}
 use mathlib.Core.List.{List}
 use Prim.Native.Nat.{ℕ, _+_, _-_, _*_, _≤_, _<_}
@@ -36,7 +36,8 @@ module _ {l : Layout} {p : Picture} {c : Ctb} {s : Sides} (ctb : CtbOf l p c s) 
       → u ≡ columns .start + i - 3 → v ≡ rows .start + j - 3 → i < pitch columns → j < pitch rows
       → read l (planeOf l columnRatio rowRatio line) x y plane u v ≡ getD copy (j * pitch columns + i) 0
   copy-holds x y u v i j inColumns inRows column row h h′ =
-      sym (copy-reads l c s (ctb .sides) columnRatio rowRatio line columns rows (column-facts ctb columnRatio rowRatio line acrossRatio across)
+      sym (copy-reads l c s (ctb .sides) columnRatio rowRatio line columns rows
+      (column-facts ctb columnRatio rowRatio line acrossRatio across)
       (row-facts ctb columnRatio rowRatio line downRatio walk down) x y u v i j inColumns inRows column row plane)
       ∙ ap (λ (w : ℕ). copied columns rows s plane w i j) wide
       ∙ sym (copy-at columns rows s plane copy copy0 width copies room i j h h′)

@@ -1,4 +1,5 @@
--- The copy of a piece holds, for every sample of the piece and every neighbour in reach, the sample at the padded position. Assumes nothing.
+-- The copy of a piece holds, for every sample of the piece and every neighbour in reach, the sample at the padded position. Assumes
+-- nothing.
 use mathlib.Core.Path.{_≡_, refl, sym, ap, ap₂, _∙_}
 use mathlib.Core.Bool.{Bool, true, false, true≢false, _&&_, and-false, cond}
 use mathlib.Core.List.{List}
@@ -15,7 +16,8 @@ use Rattle.alf_spec.specs.declared.Sides.{Sides}
 use Rattle.alf_spec.specs.Input.{Layout}
 use Rattle.alf_spec.specs.Geometry.{Side, before, after, Axis, Plane, planeOf, samples, lumaPosition, indexOf, ctbAt}
 use Rattle.alf_spec.specs.Boundary.{columnSide, rowSide, cornerDisabled, clipPosition}
-use Rattle.alf_spec.specs.Padding.{isNone, clamped, ctbEnd, pastCtb, columnClip, rowClip, clampedColumn, clampedRow, pastCorner, paddedColumn, paddedRow, read}
+use Rattle.alf_spec.specs.Padding.{isNone, clamped, ctbEnd, pastCtb, columnClip, rowClip, clampedColumn, clampedRow, pastCorner}
+use Rattle.alf_spec.specs.Padding.{paddedColumn, paddedRow, read}
 use Rattle.alf_spec.proofs.Tests.{both, and-same}
 use Rattle.alf_spec.proofs.Axes.{ctb-of}
 use Rattle.alf_boundary.specs.Tables.{SidesOf}
@@ -31,7 +33,8 @@ ratio-positive : (r n k : ℕ) → k < n / r → 0 < r
 ratio-positive zero n k h = absurd (not-suc-le-zero (rw div-zero at h))
 ratio-positive (suc r) n k h = zero-lt-suc r
 
-module _ (a : Axis) (side : Side → ClipCause) (n : ℕ) (piece : Piece) (facts : Facts a side n piece) (x u : ℕ) (in-piece : InPiece a piece x u) where
+module _ (a : Axis) (side : Side → ClipCause) (n : ℕ) (piece : Piece) (facts : Facts a side n piece) (x u : ℕ)
+    (in-piece : InPiece a piece x u) where
   -- a sample of a piece of a CTB lies in that CTB
   ctb-is : lumaPosition a x / a .ctb ≡ n
   ctb-is =
@@ -158,7 +161,8 @@ module _ (l : Layout) (c : Ctb) (s : Sides) (sides : SidesOf l c s) (columnRatio
   pub copy-reads : (x y p q i j : ℕ)
       → InPiece (planeOf l columnRatio rowRatio line .columns) columns x p → InPiece (planeOf l columnRatio rowRatio line .rows) rows y q
       → p ≡ columns .start + i - 3 → q ≡ rows .start + j - 3 → (plane : List ℕ)
-      → copied columns rows s plane (samples (planeOf l columnRatio rowRatio line .columns)) i j ≡ read l (planeOf l columnRatio rowRatio line) x y plane p q
+      → copied columns rows s plane (samples (planeOf l columnRatio rowRatio line .columns)) i j ≡ read l
+      (planeOf l columnRatio rowRatio line) x y plane p q
   unfolding copied copyRow copyColumn read
   copy-reads x y p q i j inColumns inRows ep eq plane =
       rw (← ep, ← eq)

@@ -23,7 +23,8 @@ unfolding runAt
 run-value plane from at i = ap (λ (k : ℕ). getD plane (from + k) 0) (omega arith)
 
 -- of the margin: p is where the copy's place i lies before it is held
-pub side-value : (plane : List ℕ) (row lowest limit start at i k p column : ℕ) → p ≡ start + i - 3 → column ≡ held lowest limit p → k ≡ at + i
+pub side-value : (plane : List ℕ) (row lowest limit start at i k p column : ℕ) → p ≡ start + i - 3
+    → column ≡ held lowest limit p → k ≡ at + i
     → getD plane (row + column) 0 ≡ rowAt plane row lowest limit start at k
 unfolding rowAt
 side-value plane row lowest limit start at i k p column e f g =
@@ -53,7 +54,8 @@ row-copied plane c0 row lowest limit start n at low high e1 e2 e3 =
     let two : Paint c0 (between at (n + 3)) (rowAt plane row lowest limit start at) _ =
     paint-call _ _ (paint-of e1) e2 (λ k _ t. mid-value plane row lowest limit start n at k low high t)
     (λ k _. run-join at (n + 3) (at + 0) 3 (at + 3) n (omega arith) k) in
-    paint-is (paint-call {q = between at (n + 6)} _ _ two e3 (λ k _ t. refl) (λ k _. run-join at (n + 6) at (n + 3) (at + (n + 3)) 3 (omega arith) k))
+    paint-is (paint-call {q = between at (n + 6)} _ _ two e3 (λ k _ t. refl)
+    (λ k _. run-join at (n + 6) at (n + 3) (at + (n + 3)) 3 (omega arith) k))
 
 -- row j of the copy, from the plane's row v
 pub row-is : {c1 : List ℕ} (columns rows : Piece) (s : Sides) (plane c0 : List ℕ) (width j p v lowest limit n : ℕ) → p ≡ rows .start + j - 3
@@ -76,7 +78,8 @@ module _ (columns rows : Piece) (s : Sides) (v : ℕ) {width : ℕ} (p : PieceIn
   pub lowest-within : {lowest : ℕ} → lowest ≡ rowLowest columns rows s v → lowest ≤ columns .start
   unfolding rowLowest
   lowest-within e =
-      rw e (cond-either (λ x. x ≤ columns .start) (s .«upper_left» && ltb v (rows .start)) (columns .start) (columns .lowest) (omega arith) (p .low))
+      rw e (cond-either (λ x. x ≤ columns .start) (s .«upper_left» && ltb v (rows .start)) (columns .start) (columns .lowest)
+      (omega arith) (p .low))
 
   pub limit-within : {limit : ℕ} → limit ≡ rowLimit columns rows s v → (columns .end ≤ limit) × (limit ≤ width)
   unfolding rowLimit

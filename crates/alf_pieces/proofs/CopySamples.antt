@@ -29,7 +29,8 @@ module _ (columns rows : Piece) (s : Sides) (plane copy copy0 : List ℕ) (width
   pub copy-at : (i j : ℕ) → i < pitch columns → j < pitch rows → getD copy (j * pitch columns + i) 0 ≡ copied columns rows s plane width i j
   unfolding copyAt
   copy-at i j column row =
-      at-index (j * pitch columns + i) (rw (mul-comm (pitch columns) (pitch rows)) at (place-below (pitch columns) (pitch rows) i j column row))
+      at-index (j * pitch columns + i) (rw (mul-comm (pitch columns) (pitch rows)) at
+      (place-below (pitch columns) (pitch rows) i j column row))
       ∙ ap₂ (copied columns rows s plane width) (place-column (pitch columns) (pitch rows) i j column row)
       (place-row (pitch columns) (pitch rows) i j column row)
 

@@ -24,7 +24,14 @@ use Rattle.alf_pieces.proofs.PieceFacts.{Facts, piece-facts}
 use Rattle.alf_pieces.proofs.PieceWalk.{walk-none, same-piece}
 
 pub ctb-accepted : {l : Layout} → Accepted l → {c : Ctb} {s : Sides} → SidesOf l c s → CtbOf l (l .picture) c s
-ctb-accepted ok sides = record { picture = refl; sizes = ok .sizes; ctbSize = ok .ctbSize; virtualBoundaries = ok .virtualBoundaries; sides = sides }
+ctb-accepted ok sides = record {
+  picture = refl;
+  sizes = ok .sizes;
+  ctbSize = ok .ctbSize;
+  virtualBoundaries =
+      ok .virtualBoundaries;
+  sides = sides;
+}
 
 module _ {l : Layout} {p : Picture} {c : Ctb} {s : Sides} (ctb : CtbOf l p c s) where
   sizes : (sizeValid (l .picture .width) ≡ true) × (sizeValid (l .picture .height) ≡ true)
@@ -50,12 +57,14 @@ module _ {l : Layout} {p : Picture} {c : Ctb} {s : Sides} (ctb : CtbOf l p c s) 
     unfolding planeOf
     regular-down = regular (l .picture) log2 (l .picture .height) (l .virtualRows) line rowRatio (sizes .1) (boundaries .1)
 
-    pub column-facts : Ratio columnRatio → {columns : Piece} → PieceOf (planeOf l columnRatio rowRatio line .columns) (columnSide l c) (c .column) columns
+    pub column-facts : Ratio columnRatio → {columns : Piece} → PieceOf (planeOf l columnRatio rowRatio line .columns) (columnSide l c)
+        (c .column) columns
         → Facts (planeOf l columnRatio rowRatio line .columns) (columnSide l c) (c .column) columns
     unfolding planeOf
     column-facts ratio h = piece-facts _ regular-across walk-none ratio small _ _ _ h
 
-    pub row-facts : Ratio rowRatio → WalkLine line → {rows : Piece} → PieceOf (planeOf l columnRatio rowRatio line .rows) (rowSide l c) (c .row) rows
+    pub row-facts : Ratio rowRatio → WalkLine line → {rows : Piece} → PieceOf (planeOf l columnRatio rowRatio line .rows)
+        (rowSide l c) (c .row) rows
         → Facts (planeOf l columnRatio rowRatio line .rows) (rowSide l c) (c .row) rows
     unfolding planeOf
     row-facts ratio walk h = piece-facts _ regular-down walk ratio small _ _ _ h

@@ -1,5 +1,5 @@
--- The samples of a CTB, of every plane: they are a rectangle, and the CTBs of the picture, one after the other, are the whole plane, and so they
--- are written. Assumes nothing.
+-- The samples of a CTB, of every plane: they are a rectangle, and the CTBs of the picture, one after the other, are the whole plane, and so
+-- they are written. Assumes nothing.
 use mathlib.Core.Path.{_≡_, refl, sym, ap, _∙_}
 use mathlib.Core.Bool.{Bool, true, false, _||_}
 use mathlib.Core.Logic.{inl, inr, ⊎-elim}
@@ -14,7 +14,8 @@ use Rattle.alf_spec.specs.declared.Ctb.{Ctb}
 use Rattle.alf_spec.specs.declared.Grid.{Grid}
 use Rattle.alf_spec.specs.Lists.{tabulate, painted}
 use Rattle.alf_spec.specs.Input.{Layout}
-use Rattle.alf_spec.specs.Geometry.{Axis, Plane, samples, lumaPosition, planeOf, planeLength, columnOf, rowOf, ctbAt, address, ctbColumns, ctbRows, ctbTotal}
+use Rattle.alf_spec.specs.Geometry.{Axis, Plane, samples, lumaPosition, planeOf, planeLength, columnOf, rowOf, ctbAt, address, ctbColumns}
+use Rattle.alf_spec.specs.Geometry.{ctbRows, ctbTotal}
 use Rattle.alf_spec.proofs.Tests.{never, same-test, one-of}
 use Rattle.alf_spec.proofs.Planes.{place-column, place-row, column-below, row-below, address-below}
 use Rattle.alf_spec.proofs.Accepted.{Accepted}
@@ -65,7 +66,8 @@ module _ (a : Axis) (ok : Regular a) (q : ℕ) where
 
 -- ---- in a plane with these ratios to luma
 
-module _ (l : Layout) (ok : Accepted l) (columnRatio rowRatio line : ℕ) (wholeColumns : Whole columnRatio) (wholeRows : Whole rowRatio) where
+module _ (l : Layout) (ok : Accepted l) (columnRatio rowRatio line : ℕ) (wholeColumns : Whole columnRatio)
+    (wholeRows : Whole rowRatio) where
   abbrev plane : Plane
   plane = planeOf l columnRatio rowRatio line
 
@@ -73,7 +75,8 @@ module _ (l : Layout) (ok : Accepted l) (columnRatio rowRatio line : ℕ) (whole
   module _ (i : ℕ) (h : i < planeLength plane) where
     pub column-in : let g = planeOf l columnRatio rowRatio line in lumaPosition (g .columns) (columnOf g i) / g .columns .ctb < ctbColumns l
     unfolding planeOf
-    column-in = ctb-below (plane .columns) (regular-columns l ok columnRatio rowRatio line) _ (lt-own columnRatio _ _ (column-below plane i h))
+    column-in = ctb-below (plane .columns) (regular-columns l ok columnRatio rowRatio line) _
+        (lt-own columnRatio _ _ (column-below plane i h))
 
     pub row-in : let g = planeOf l columnRatio rowRatio line in lumaPosition (g .rows) (rowOf g i) / g .rows .ctb < ctbRows l
     unfolding planeOf
@@ -102,7 +105,8 @@ module _ (l : Layout) (ok : Accepted l) (columnRatio rowRatio line : ℕ) (whole
           sym (place-column (ctbColumns l) (ctbRows l) (own .column) (own .row) column-in row-in) ∙ ap (λ (n : ℕ). n % ctbColumns l) e in
           let row : own .row ≡ k / ctbColumns l =
           sym (place-row (ctbColumns l) (ctbRows l) (own .column) (own .row) column-in row-in) ∙ ap (λ (n : ℕ). n / ctbColumns l) e in
-          let across = ctb-range (plane .columns) (regular-columns l ok columnRatio rowRatio line) _ wholeColumns _ (column-below plane i h) column in
+          let across = ctb-range (plane .columns) (regular-columns l ok columnRatio rowRatio line) _ wholeColumns _
+          (column-below plane i h) column in
           let down = ctb-range (plane .rows) (regular-rows l ok columnRatio rowRatio line) _ wholeRows _ (row-below plane i h) row in
           in-rect _ _ _ _ _ i (across .0, across .1, down .0, down .1)
 
@@ -112,12 +116,14 @@ module _ (l : Layout) (ok : Accepted l) (columnRatio rowRatio line : ℕ) (whole
           let f = rect-facts _ _ _ _ _ i t in
           let column : own .column ≡ k % ctbColumns l =
           range-ctb (plane .columns) (regular-columns l ok columnRatio rowRatio line) _ wholeColumns _ (f .0) (f .1) in
-          let row : own .row ≡ k / ctbColumns l = range-ctb (plane .rows) (regular-rows l ok columnRatio rowRatio line) _ wholeRows _ (f .2) (f .3) in
+          let row : own .row ≡ k / ctbColumns l = range-ctb (plane .rows) (regular-rows l ok columnRatio rowRatio line) _ wholeRows _
+          (f .2) (f .3) in
           rw (column, row) (div-add-mod' k (ctbColumns l))
 
       ctb-rectangle : ofCtb l plane k i ≡ rectangle i
       unfolding ofCtb
-      ctb-rectangle = same-test (eqb (address l own) k) (rectangle i) (λ t. to-rectangle (eqb-true _ k t)) (λ t. eq-eqb _ k (from-rectangle t))
+      ctb-rectangle = same-test (eqb (address l own) k) (rectangle i) (λ t. to-rectangle (eqb-true _ k t))
+          (λ t. eq-eqb _ k (from-rectangle t))
 
       -- by the numbers of the picture's grid, as code has it
       grid-rectangle : (g : Grid) → GridOf (l .picture) g
@@ -132,11 +138,13 @@ module _ (l : Layout) (ok : Accepted l) (columnRatio rowRatio line : ℕ) (whole
     -- the rectangle that code writes is the CTB
     pub ctb-painted : (k : ℕ) {ys : List ℕ} → ys ≡ painted xs (inRect (l .picture .width / columnRatio)
         (k % g .columns * g .ctb / columnRatio) (min (k % g .columns * g .ctb + g .ctb) (l .picture .width) / columnRatio)
-        (k / g .columns * g .ctb / rowRatio) (min (k / g .columns * g .ctb + g .ctb) (l .picture .height) / rowRatio)) v → ys ≡ painted xs (ofCtb l plane k) v
+        (k / g .columns * g .ctb / rowRatio) (min (k / g .columns * g .ctb + g .ctb) (l .picture .height) / rowRatio)) v
+        → ys ≡ painted xs (ofCtb l plane k) v
     ctb-painted k e = paint-is (paint-same (paint-of e) (λ i h. grid-rectangle i (omega (arith, size)) k g grid) (λ i h t. refl))
 
     -- all CTBs are written
-    pub all-painted : {k : ℕ} {ys : List ℕ} → Paint xs (beforeCtb l plane k) v ys → k ≡ g .columns * g .rows → ys ≡ tabulate (planeLength plane) v
+    pub all-painted : {k : ℕ} {ys : List ℕ} → Paint xs (beforeCtb l plane k) v ys → k ≡ g .columns * g .rows
+        → ys ≡ tabulate (planeLength plane) v
     all-painted P all = rw size at (paint-all P (λ i h. rw (all ∙ grid-total l g grid) (every-ctb i (omega (arith, size)))))
 
 -- the CTBs before the first, and before the next

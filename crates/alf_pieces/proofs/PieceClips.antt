@@ -1,5 +1,5 @@
--- The clip positions of a sample of a piece are the piece's ends, where its outermost sample on that side has one; where that has one and the sample has
--- none, the end is out of reach. In luma positions. Assumes nothing.
+-- The clip positions of a sample of a piece are the piece's ends, where its outermost sample on that side has one; where that has one and
+-- the sample has none, the end is out of reach. In luma positions. Assumes nothing.
 use mathlib.Core.Path.{_≡_, sym, _∙_, subst}
 use mathlib.Core.Logic.{_⊎_, inl, inr, ⊎-elim, by-cases}
 use mathlib.Core.Bool.{true, true≢false}
@@ -15,7 +15,8 @@ use Rattle.alf_spec.proofs.Lists.{elem-mem}
 use Rattle.alf_spec.proofs.Axes.{Regular, ctb-of}
 use Rattle.alf_spec.proofs.IsolatedRegions.Reach.{Reach}
 use Rattle.alf_spec.proofs.IsolatedRegions.PastCtb.{Between}
-use Rattle.alf_spec.proofs.IsolatedRegions.ClipPositions.{Ends, stops, runs, Near, bound, Rule, line-rule, virtual-rule, side-rule, Found, Clear, clip-found}
+use Rattle.alf_spec.proofs.IsolatedRegions.ClipPositions.{Ends, stops, runs, Near, bound, Rule, line-rule, virtual-rule, side-rule, Found}
+use Rattle.alf_spec.proofs.IsolatedRegions.ClipPositions.{Clear, clip-found}
 use Rattle.alf_pieces.specs.Pieces.{WalkLine, ctbLimit, Begins, at-side, at-boundary, at-line}
 use Rattle.alf_pieces.proofs.PieceEnds.{walk-fits, found-first, Inner, Span, bound-at, line-at, start4, end4}
 
@@ -86,9 +87,11 @@ module _ (a : Axis) (ok : Regular a) (walk : WalkLine (a .line)) (side : Side �
     -- so it is the end
     is-tip : (d : Side) (e : ℕ) → Found a x side d e → e ≡ tip d lo hi
     is-tip before e f =
-        ⊎-elim (λ l. omega (arith, found-first a ok walk x before e f, start4 a ok walk q lo hi s)) (λ l. absurd (omega (arith, found-first a ok walk x before e f))) (outside before e (f .rule))
+        ⊎-elim (λ l. omega (arith, found-first a ok walk x before e f, start4 a ok walk q lo hi s))
+        (λ l. absurd (omega (arith, found-first a ok walk x before e f))) (outside before e (f .rule))
     is-tip after e f =
-        ⊎-elim (λ l. absurd (omega (arith, found-first a ok walk x after e f))) (λ l. omega (arith, found-first a ok walk x after e f, end4 a ok walk q lo hi s)) (outside after e (f .rule))
+        ⊎-elim (λ l. absurd (omega (arith, found-first a ok walk x after e f)))
+        (λ l. omega (arith, found-first a ok walk x after e f, end4 a ok walk q lo hi s)) (outside after e (f .rule))
 
     tip-rule : (d : Side) (e : ℕ) → Found a x side d e → Rule a x side d (tip d lo hi)
     tip-rule d e f = subst (Rule a x side d) (is-tip d e f) (f .rule)
@@ -107,7 +110,8 @@ module _ (a : Axis) (ok : Regular a) (walk : WalkLine (a .line)) (side : Side �
       by _ (runs n) = uncut
 
   -- where it has no clip position, the piece ends with the CTB, or with the picture
-  pub open-bound : (d : Side) → isNone (clipPosition a (outermost d lo hi) side d) ≡ true → tip d lo hi < a .size → tip d lo hi ≡ bound a d lo
+  pub open-bound : (d : Side) → isNone (clipPosition a (outermost d lo hi) side d) ≡ true → tip d lo hi < a .size
+      → tip d lo hi ≡ bound a d lo
   open-bound d none-there inPicture = by _ (clip-found a ok (outermost d lo hi) (walk-fits walk) side d) none-there
     where
       start : lo / a .ctb ≡ q
@@ -130,7 +134,8 @@ module _ (a : Axis) (ok : Regular a) (walk : WalkLine (a .line)) (side : Side �
           ⊎-elim (λ (e : hi ≡ ctbLimit a q). let end : hi ≡ q * a .ctb + a .ctb = omega arith in end ∙ sym (bound-at a after q lo start))
           (λ i. absurd (no-inner after n i)) (s .ends)
 
-      by : (o : Option ℕ) → Ends (Found a (outermost d lo hi) side d) (Clear a (outermost d lo hi) side d) o → isNone o ≡ true → tip d lo hi ≡ bound a d lo
+      by : (o : Option ℕ) → Ends (Found a (outermost d lo hi) side d) (Clear a (outermost d lo hi) side d) o → isNone o ≡ true
+          → tip d lo hi ≡ bound a d lo
       by _ (stops f) e = absurd (true≢false (sym e))
       by _ (runs n) e = ended d inPicture n
 

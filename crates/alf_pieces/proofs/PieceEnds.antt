@@ -1,5 +1,5 @@
--- Where a piece of a CTB begins and ends, in luma positions: at multiples of 4, with no virtual boundary and no line-buffer boundary between.
--- Assumes nothing.
+-- Where a piece of a CTB begins and ends, in luma positions: at multiples of 4, with no virtual boundary and no line-buffer boundary
+-- between. Assumes nothing.
 use mathlib.Core.Path.{_≡_, sym, ap, _∙_}
 use mathlib.Core.Logic.{_⊎_, inl, inr, ⊎-elim, by-cases}
 use mathlib.Core.Bool.{true, cond}
@@ -16,7 +16,8 @@ use Rattle.alf_spec.specs.Padding.{isNone}
 use Rattle.alf_spec.proofs.Lists.{mem-elem, elem-mem}
 use Rattle.alf_spec.proofs.Axes.{Regular, ctb-of}
 use Rattle.alf_spec.proofs.IsolatedRegions.Ratios.{LineFits}
-use Rattle.alf_spec.proofs.IsolatedRegions.ClipPositions.{Ends, stops, runs, Near, Stop, bound, bound8, Rule, line-rule, virtual-rule, side-rule, Found, Clear, clip-found}
+use Rattle.alf_spec.proofs.IsolatedRegions.ClipPositions.{Ends, stops, runs, Near, Stop, bound, bound8, Rule, line-rule, virtual-rule}
+use Rattle.alf_spec.proofs.IsolatedRegions.ClipPositions.{side-rule, Found, Clear, clip-found}
 use Rattle.alf_pieces.specs.Pieces.{WalkLine, ctbLimit, ctbLine, runEnd, pieceEnd, Begins, at-side, at-boundary, at-line}
 
 -- where a piece may end within the CTB at place q: at its line-buffer boundary, at a virtual boundary
@@ -121,7 +122,14 @@ module _ (a : Axis) (ok : Regular a) (walk : WalkLine (a .line)) (side : Side �
 
     block : (o : Option ℕ) → Ends (Found a (x + 3) side after) (Clear a (x + 3) side after) o → {r : ℕ} → Run a q (x + 4) r
         → Run a q x (cond (isNone o) r (x + 4))
-    block _ (stops {e} f) t = record { on = omega arith; moved = inr (omega arith); most = high; whole = later; ends = stop e (omega (arith, found-first a ok walk (x + 3) after e f)) (f .rule) }
+    block _ (stops {e} f) t = record {
+      on = omega arith;
+      moved = inr (omega arith);
+      most = high;
+      whole = later;
+      ends =
+          stop e (omega (arith, found-first a ok walk (x + 3) after e f)) (f .rule);
+    }
     block _ (runs n) {r} t = record {
       on = omega (arith, t .on);
       moved = inr (omega (arith, t .on));
@@ -134,9 +142,17 @@ module _ (a : Axis) (ok : Regular a) (walk : WalkLine (a .line)) (side : Side �
 
   run : (n x : ℕ) → q * a .ctb ≤ x → x + 4 * n ≡ ctbLimit a q → x % 4 ≡ 0 → Run a q x (runEnd a side n x)
   unfolding runEnd
-  run zero x low e x4 = record { on = omega arith; moved = inl (omega arith); most = omega arith; whole = λ b i h. omega arith; ends = inl (omega arith) }
+  run zero x low e x4 = record {
+    on = omega arith;
+    moved = inl (omega arith);
+    most = omega arith;
+    whole = λ b i h. omega arith;
+    ends =
+        inl (omega arith);
+  }
   run (suc n) x low e x4 =
-      block x low (omega arith) x4 _ (clip-found a ok (x + 3) (walk-fits walk) side after) (run n (x + 4) (omega arith) (omega arith) (omega arith))
+      block x low (omega arith) x4 _ (clip-found a ok (x + 3) (walk-fits walk) side after)
+      (run n (x + 4) (omega arith) (omega arith) (omega arith))
 
   pub span : (x : ℕ) → x < ctbLimit a q → q * a .ctb ≤ x → Begins a q x → Span a q x (pieceEnd a side q x)
   unfolding pieceEnd
@@ -161,7 +177,8 @@ module _ (a : Axis) (ok : Regular a) (walk : WalkLine (a .line)) (q lo hi : ℕ)
   start4 = begins4 a ok walk q lo (s .from) inside lo (s .begins)
 
   pub end4 : hi % 4 ≡ 0
-  end4 = ⊎-elim (λ (e : hi ≡ ctbLimit a q). rw e (limit4 a ok walk q lo (s .from) inside)) (inner4 a ok walk q lo (s .from) inside hi) (s .ends)
+  end4 = ⊎-elim (λ (e : hi ≡ ctbLimit a q). rw e (limit4 a ok walk q lo (s .from) inside))
+      (inner4 a ok walk q lo (s .from) inside hi) (s .ends)
 
   -- where it ends within the CTB, another may begin
   pub next-begins : hi < ctbLimit a q → Begins a q hi

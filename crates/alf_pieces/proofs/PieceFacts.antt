@@ -1,4 +1,5 @@
--- What a piece of a CTB says of the samples in it, along one axis: the reads of `alf_spec` are clamped to the piece's own numbers. Assumes nothing.
+-- What a piece of a CTB says of the samples in it, along one axis: the reads of `alf_spec` are clamped to the piece's own numbers. Assumes
+-- nothing.
 use mathlib.Core.Path.{_≡_, refl, sym, ap, _∙_, subst}
 use mathlib.Core.Bool.{Bool, true, false, _&&_, true≢false}
 use mathlib.Core.Option.{Option, some}
@@ -22,7 +23,8 @@ use Rattle.alf_pieces.specs.declared.pieces.Piece.{Piece}
 use Rattle.alf_pieces.specs.Pieces.{WalkLine, ctbLimit, pieceEnd, pieceAt, Begins, PieceOf, PieceIn}
 use Rattle.alf_pieces.specs.Copies.{held}
 use Rattle.alf_pieces.proofs.PieceEnds.{Span, bound-at, span, start4, end4, next-begins}
-use Rattle.alf_pieces.proofs.PieceClips.{tip, outermost, AtTip, cut, uncut, at-tip, open-bound, Meets, at-end, open-end, far-end, meets}
+use Rattle.alf_pieces.proofs.PieceClips.{tip, outermost, AtTip, cut, uncut, at-tip, open-bound, Meets, at-end, open-end, far-end}
+use Rattle.alf_pieces.proofs.PieceClips.{meets}
 use Rattle.alf_pieces.proofs.PieceReads.{own-is, own-sum, own-most, reach-inside, clamped-same}
 
 -- u lies past the piece on that side
@@ -56,7 +58,8 @@ pub record Facts (a : Axis) (side : Side → ClipCause) (q : ℕ) (p : Piece) : 
   pub reads : (x u : ℕ) → InPiece a p x u → clamped a (clipPosition a (lumaPosition a x) side) u ≡ held (p .lowest) (p .limit) u
   -- a read past the CTB with no clip position between is a read past the piece
   pub past : (x u : ℕ) → InPiece a p x u → (d : Side)
-      → (pastCtb a d x (held (p .lowest) (p .limit) u) && isNone (clipPosition a (lumaPosition a x) side d)) ≡ pastPiece d p (held (p .lowest) (p .limit) u)
+      → (pastCtb a d x (held (p .lowest) (p .limit) u) && isNone (clipPosition a (lumaPosition a x) side d)) ≡ pastPiece d p
+      (held (p .lowest) (p .limit) u)
   -- and the CTB's outermost sample is then the piece's
   pub edge : (x u : ℕ) → InPiece a p x u → (d : Side) → pastPiece d p (held (p .lowest) (p .limit) u) ≡ true → ctbEnd a d x ≡ outer d p
 
@@ -200,9 +203,11 @@ module _ (a : Axis) (ok : Regular a) (walk : WalkLine (a .line)) (ratio : Ratio 
     at-bound : (d : Side) → pastPiece d p v ≡ true → tip d lo hi ≡ bound a d X
     at-bound d t =
         let start-place = ctb-of a q lo (part .from) (omega (arith, part .filled, part .upto)) in
-        open-bound a ok walk side q lo hi part d (not-cut d t) (in-picture d t) ∙ bound-at a d q lo start-place ∙ sym (bound-at a d q X place)
+        open-bound a ok walk side q lo hi part d (not-cut d t) (in-picture d t) ∙ bound-at a d q lo start-place
+        ∙ sym (bound-at a d q X place)
 
-    no-clip : (d : Side) (o o′ : Option ℕ) → Meets d (tip d lo hi) X (lumaPosition a (inPlane a u)) o o′ → isNone o′ ≡ true → isNone o ≡ true
+    no-clip : (d : Side) (o o′ : Option ℕ) → Meets d (tip d lo hi) X (lumaPosition a (inPlane a u)) o o′ → isNone o′ ≡ true
+        → isNone o ≡ true
     no-clip d _ _ at-end q = q
     no-clip d _ _ open-end q = refl
     no-clip d _ _ (far-end f) q = refl
@@ -233,7 +238,8 @@ module _ (a : Axis) (ok : Regular a) (walk : WalkLine (a .line)) (ratio : Ratio 
     edge = λ x u h. edge (numbers small) x u h;
   }
 
-pub piece-facts : (a : Axis) → Regular a → WalkLine (a .line) → Ratio (a .ratio) → a .ctb ≤ 128 → (side : Side → ClipCause) (q : ℕ) (p : Piece)
+pub piece-facts : (a : Axis) → Regular a → WalkLine (a .line) → Ratio (a .ratio) → a .ctb ≤ 128
+    → (side : Side → ClipCause) (q : ℕ) (p : Piece)
     → PieceOf a side q p → Facts a side q p
 piece-facts a ok walk ratio small side q p h =
     let part = span a ok walk side q (lumaPosition a (p .start)) (h .upto) (h .from) (h .begins) in

@@ -78,18 +78,22 @@ module _ (a : Axis) (x u : ℕ) where
   reach-inside low r =
       by-cases (decLe u (pred (samples a)))
       (λ l. let e : inPlane a u ≡ u = omega arith in rw e r)
-      (λ l. reach-less (lumaPosition a x) (lumaPosition a u) _ (mul-le-mul-right (a .ratio) (omega arith)) (mul-le-mul-right (a .ratio) (omega arith)) r)
+      (λ l. reach-less (lumaPosition a x) (lumaPosition a u) _ (mul-le-mul-right (a .ratio) (omega arith))
+      (mul-le-mul-right (a .ratio) (omega arith)) r)
 
   -- the piece from s to hi, by the clip positions of its outermost samples
   pub clamped-same : Ratio (a .ratio) → (s hi : ℕ) (clip outer : Side → Option ℕ)
-      → s ≤ x → lumaPosition a x < hi → hi % 2 ≡ 0 → lowest a (outer before) ≤ s → hi / a .ratio ≤ limit a (outer after) → limit a (outer after) ≤ samples a
+      → s ≤ x → lumaPosition a x < hi → hi % 2 ≡ 0 → lowest a (outer before) ≤ s → hi / a .ratio ≤ limit a (outer after)
+      → limit a (outer after) ≤ samples a
       → Meets before (lumaPosition a s) (lumaPosition a x) (lumaPosition a (inPlane a u)) (clip before) (outer before)
       → Meets after hi (lumaPosition a x) (lumaPosition a (inPlane a u)) (clip after) (outer after)
       → clamped a clip u ≡ held (lowest a (outer before)) (limit a (outer after)) u
   clamped-same ratio s hi clip outer low high q l h k m m′ =
       let inPiece = own-lt (a .ratio) ratio hi x q high in
-      ap (min (pred (limit a (clip after)))) (low-same a ratio (lumaPosition a x) (inPlane a u) s (clip before) (outer before) m (mul-le-mul-right (a .ratio) low))
-      ∙ high-same a ratio (lumaPosition a x) (inPlane a u) hi (max (lowest a (outer before)) (inPlane a u)) (clip after) (outer after) m′ q high (omega arith)
+      ap (min (pred (limit a (clip after)))) (low-same a ratio (lumaPosition a x) (inPlane a u) s (clip before) (outer before) m
+      (mul-le-mul-right (a .ratio) low))
+      ∙ high-same a ratio (lumaPosition a x) (inPlane a u) hi (max (lowest a (outer before)) (inPlane a u)) (clip after)
+      (outer after) m′ q high (omega arith)
       (λ g. less (lowest a (outer before)) (inPlane a u) (hi / a .ratio) (omega arith) g)
       ∙ held-same (samples a) (lowest a (outer before)) (limit a (outer after)) u (omega arith) k
     where

@@ -22,18 +22,22 @@ block-start ctb q end low high =
 
 -- for every plane, and whatever the side before is
 abbrev Each : ℕ → ℕ → ℕ → List ℕ → ClipCause → (Axis → (Side → ClipCause) → Type 0) → Type 0
-Each size ctb line boundaries side P = (ratio : ℕ) (sides : Side → ClipCause) → sides after ≡ side → P (axisOf size ctb boundaries line ratio) sides
+Each size ctb line boundaries side P = (ratio : ℕ) (sides : Side → ClipCause) → sides after ≡ side
+    → P (axisOf size ctb boundaries line ratio) sides
 
 -- the blocks from `end` on are ahead of the loop that began at x, in the CTB at place q
 pub record Scanned (size ctb line : ℕ) (boundaries : List ℕ) (side : ClipCause) (q x end : ℕ) : Type 0 where
   pub small : end ≤ 65535
-  pub rest : Each size ctb line boundaries side (λ a sides. pieceEnd a sides q x ≡ runEnd a sides ((min (q * ctb + ctb) size - end) / 4) end)
+  pub rest : Each size ctb line boundaries side
+      (λ a sides. pieceEnd a sides q x ≡ runEnd a sides ((min (q * ctb + ctb) size - end) / 4) end)
 
-pub scan-start : (size ctb line : ℕ) (boundaries : List ℕ) (side : ClipCause) (q x : ℕ) → x ≤ 65535 → Scanned size ctb line boundaries side q x x
+pub scan-start : (size ctb line : ℕ) (boundaries : List ℕ) (side : ClipCause) (q x : ℕ) → x ≤ 65535
+    → Scanned size ctb line boundaries side q x x
 unfolding pieceEnd
 scan-start size ctb line boundaries side q x h = record { small = h; rest = λ ratio sides e. refl }
 
-module _ {size ctb line : ℕ} {boundaries : List ℕ} {side : ClipCause} {q x end : ℕ} (s : Scanned size ctb line boundaries side q x end) where
+module _ {size ctb line : ℕ} {boundaries : List ℕ} {side : ClipCause} {q x end : ℕ}
+    (s : Scanned size ctb line boundaries side q x end) where
   -- no whole block is left
   pub scan-done : min (q * ctb + ctb) size < end + 4 → Each size ctb line boundaries side (λ a sides. end ≡ pieceEnd a sides q x)
   unfolding runEnd
@@ -43,7 +47,8 @@ module _ {size ctb line : ℕ} {boundaries : List ℕ} {side : ClipCause} {q x e
 
   -- a block, and what stands after its last sample
   module _ (h : end + 4 ≤ min (q * ctb + ctb) size) (after-last : FoundClip)
-      (found : Each size ctb line boundaries side (λ a sides. clipOf after-last ≡ clip a (end + 3) sides after)) {t : Bool} (opens : t ≡ isNone (positionOf after-last)) where
+      (found : Each size ctb line boundaries side (λ a sides. clipOf after-last ≡ clip a (end + 3) sides after)) {t : Bool}
+      (opens : t ≡ isNone (positionOf after-last)) where
     block : Each size ctb line boundaries side (λ a sides.
         pieceEnd a sides q x ≡ cond t (runEnd a sides ((min (q * ctb + ctb) size - (end + 4)) / 4) (end + 4)) (end + 4))
     unfolding runEnd clipPosition

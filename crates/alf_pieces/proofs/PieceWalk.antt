@@ -56,7 +56,13 @@ pub turn : {a : Axis} {side : Side → ClipCause} {q x : ℕ} {p : Piece} → Re
 unfolding pieceAt
 turn {a} {side} {q} {x} {p} ok ratio walk small w h e =
     let piece : PieceOf a side q p =
-    rw e record { from = w .from; upto = lt-own (a .ratio) (ctbLimit a q) x h; begins = w .begins (lt-own (a .ratio) (ctbLimit a q) x h); is = refl } in
+    rw e record {
+      from = w .from;
+      upto = lt-own (a .ratio) (ctbLimit a q) x h;
+      begins =
+          w .begins (lt-own (a .ratio) (ctbLimit a q) x h);
+      is = refl;
+    } in
     record { start = ap (λ (p : Piece). p .start) e; piece = piece; facts = piece-facts a ok walk ratio small side q p piece }
 
 -- the loop's measure
@@ -81,11 +87,14 @@ pub walk-luma : WalkLine 4
 walk-luma = omega arith
 
 -- the axes of an accepted picture, as code has them
-module _ {p : Picture} {g : Grid} (grid : GridOf p g) (sizes : pictureSizeValid p ≡ true) (log2 : ctbSizeValid p ≡ true) {list : List ℕ} where
-  pub columns-regular : virtualListValid (p .width) (ctbSize p) list ≡ true → (ratio : ℕ) → Regular (axisOf (p .width) (g .ctb) list 0 ratio)
+module _ {p : Picture} {g : Grid} (grid : GridOf p g) (sizes : pictureSizeValid p ≡ true) (log2 : ctbSizeValid p ≡ true)
+    {list : List ℕ} where
+  pub columns-regular : virtualListValid (p .width) (ctbSize p) list ≡ true → (ratio : ℕ)
+      → Regular (axisOf (p .width) (g .ctb) list 0 ratio)
   columns-regular valid ratio = rw (grid .ctb) (regular p log2 (p .width) list 0 ratio (sizes-valid p sizes .0) valid)
 
-  pub rows-regular : virtualListValid (p .height) (ctbSize p) list ≡ true → (line ratio : ℕ) → Regular (axisOf (p .height) (g .ctb) list line ratio)
+  pub rows-regular : virtualListValid (p .height) (ctbSize p) list ≡ true → (line ratio : ℕ)
+      → Regular (axisOf (p .height) (g .ctb) list line ratio)
   rows-regular valid line ratio = rw (grid .ctb) (regular p log2 (p .height) list line ratio (sizes-valid p sizes .1) valid)
 
 -- two sides with the same causes
@@ -97,7 +106,8 @@ sides-same {given} {side} first last = λ t d. at d t
     at after = last
 
 -- the same piece, of an axis and sides given otherwise
-pub same-piece : {a b : Axis} {side given : Side → ClipCause} {q : ℕ} {p : Piece} → a ≡ b → given before ≡ side before → given after ≡ side after
+pub same-piece : {a b : Axis} {side given : Side → ClipCause} {q : ℕ} {p : Piece} → a ≡ b → given before ≡ side before
+    → given after ≡ side after
     → PieceOf a given q p → PieceOf b side q p
 same-piece {b = b} {given = given} {q = q} {p = p} e first last h =
     subst (λ s. PieceOf b s q p) (sides-same first last) (subst (λ a. PieceOf a given q p) e h)

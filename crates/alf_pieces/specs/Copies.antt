@@ -1,5 +1,5 @@
--- The copy of a piece with a margin of 3 samples on each side: which sample of the plane stands where. `proofs/CopyReads` shows that it is the
--- sample at the padded position of `alf_spec`, for every sample of the piece and every neighbour in reach. Assumes nothing.
+-- The copy of a piece with a margin of 3 samples on each side: which sample of the plane stands where. `proofs/CopyReads` shows that it is
+-- the sample at the padded position of `alf_spec`, for every sample of the piece and every neighbour in reach. Assumes nothing.
 use mathlib.Core.Bool.{_&&_, cond}
 use mathlib.Core.List.{List}
 use Prim.Native.Nat.{ℕ, pred, _+_, _-_, _*_, _/_, _%_, min, max}
@@ -33,7 +33,8 @@ module _ (columns rows : Piece) (s : Sides) where
   unfoldable pub copyRow : ℕ → ℕ
   copyRow j = held (rows .lowest) (rows .limit) (rows .start + j - 3)
 
-  -- the first column that is read in the plane's row v: past the upper left corner it is the piece's own, where filtering across is disabled
+  -- the first column that is read in the plane's row v: past the upper left corner it is the piece's own, where filtering across is
+  -- disabled
   unfoldable pub rowLowest : ℕ → ℕ
   rowLowest v = cond (s .«upper_left» && ltb v (rows .start)) (columns .start) (columns .lowest)
 

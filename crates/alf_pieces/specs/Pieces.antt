@@ -1,5 +1,5 @@
--- The pieces of a CTB along an axis: where one ends, and what reads from its samples are clamped to, both by the clip positions of `alf_spec`.
--- `proofs/PieceFacts` shows that this is the clamping of `alf_spec`, for every sample of the piece. Assumes nothing.
+-- The pieces of a CTB along an axis: where one ends, and what reads from its samples are clamped to, both by the clip positions of
+-- `alf_spec`. `proofs/PieceFacts` shows that this is the clamping of `alf_spec`, for every sample of the piece. Assumes nothing.
 use mathlib.Core.Path.{_≡_}
 use mathlib.Core.Bool.{true, cond}
 use Prim.Native.Nat.{ℕ, zero, suc, pred, _+_, _-_, _*_, _/_, _%_, _≤_, _<_, min}
@@ -46,7 +46,8 @@ pieceEnd a side q x = runEnd a side ((ctbLimit a q - x) / 4) x
 
 -- ---- what reads are clamped to
 
--- the piece that begins at the plane's own sample x: reads are clamped to the clip position before its first sample, and to that after its last
+-- the piece that begins at the plane's own sample x: reads are clamped to the clip position before its first sample, and to that after its
+-- last
 unfoldable pub pieceAt : Axis → (Side → ClipCause) → ℕ → ℕ → Piece
 pieceAt a side q x = record {
   start = x;

@@ -5,7 +5,8 @@ ghost use lib.ListN.{length};
 ghost use Rattle.alf_spec.specs.Lists.{painted};
 ghost use Rattle.alf_lists.specs.Regions.{between};
 ghost use Rattle.alf_pieces.specs.Pieces.{PieceIn};
-ghost use Rattle.alf_pieces.specs.Copies.{held as heldIn, extent as extentOf, pitch, copyLength, rowLowest, rowLimit, copyAt, runAt, rowAt};
+ghost use Rattle.alf_pieces.specs.Copies.{held as heldIn, extent as extentOf, pitch, copyLength, rowLowest, rowLimit, copyAt, runAt};
+ghost use Rattle.alf_pieces.specs.Copies.{rowAt};
 use crate::pieces::Piece;
 use alf_spec::Sides;
 
@@ -88,7 +89,8 @@ fn copy_side(
     i: usize,
 )
     requires { ⌜ (lowest < limit) × (row + limit ≤ length (now plane)) × (start ≤ limit) × (at + i + 3 ≤ length (now copy)) ⌝ }
-    ensures { λ _. ⌜ now (copy .exit) ≡ painted (now (copy .entry)) (between (at + i) 3) (rowAt (now (plane .entry)) row lowest limit start at) ⌝ }
+    ensures { λ _. ⌜ now (copy .exit) ≡ painted (now (copy .entry)) (between (at + i) 3)
+        (rowAt (now (plane .entry)) row lowest limit start at) ⌝ }
 {
     let mut k: usize = 0;
     while k < 3 {
@@ -109,8 +111,10 @@ fn copy_row(
     copy: &mut [u16],
     at: usize,
 )
-    requires { ⌜ (lowest ≤ start) × (0 < n) × (start + n ≤ limit) × (row + limit ≤ length (now plane)) × (at + (n + 6) ≤ length (now copy)) ⌝ }
-    ensures { λ _. ⌜ now (copy .exit) ≡ painted (now (copy .entry)) (between at (n + 6)) (rowAt (now (plane .entry)) row lowest limit start at) ⌝ }
+    requires { ⌜ (lowest ≤ start) × (0 < n) × (start + n ≤ limit) × (row + limit ≤ length (now plane))
+        × (at + (n + 6) ≤ length (now copy)) ⌝ }
+    ensures { λ _. ⌜ now (copy .exit) ≡ painted (now (copy .entry)) (between at (n + 6))
+        (rowAt (now (plane .entry)) row lowest limit start at) ⌝ }
 {
     copy_side(plane, row, lowest, limit, start, copy, at, 0);
     copy_run(plane, row + start, n, copy, at + 3);
@@ -160,7 +164,8 @@ fn copy_row_of(
     );
 }
 
-// The copy of a piece of a plane of so many columns; the sides are its CTB's. `copy-reads` says that it holds the samples at padded positions.
+// The copy of a piece of a plane of so many columns; the sides are its CTB's. `copy-reads` says that it holds the samples at padded
+// positions.
 pub fn copy_piece(
     plane: &[u16],
     width: usize,

@@ -1,5 +1,5 @@
-// The pieces of a CTB along an axis. A piece goes from one clip position to the next, and all reads from its samples are clamped to one range, which is
-// found once: that of its first and of its last sample.
+// The pieces of a CTB along an axis. A piece goes from one clip position to the next, and all reads from its samples are clamped to one
+// range, which is found once: that of its first and of its last sample.
 ghost use mathlib.Core.Path.{_≡_};
 ghost use mathlib.Core.Bool.{true, false};
 ghost use mathlib.Core.List.{List};
@@ -43,7 +43,8 @@ fn is_open(found: FoundClip) -> bool
 // Where reads begin: the clip position before, in the plane's own samples, or 0.
 fn lowest(found: FoundClip, ratio: u32) -> u32
     requires { ⌜ 0 < ratio ⌝ }
-    ensures { λ r. ⌜ ((size ctb : ℕ) (boundaries : List ℕ) (line : ℕ) → r ≡ lowestOf (axisOf size ctb boundaries line ratio) (positionOf found)) ⌝ }
+    ensures { λ r. ⌜ ((size ctb : ℕ) (boundaries : List ℕ) (line : ℕ) → r ≡ lowestOf (axisOf size ctb boundaries line ratio)
+        (positionOf found)) ⌝ }
 {
     match found {
         FoundClip::At(clip) => clip.position / ratio,
@@ -54,7 +55,8 @@ fn lowest(found: FoundClip, ratio: u32) -> u32
 // Where reads end: the clip position after, in the plane's own samples, or the plane's end.
 fn limit(found: FoundClip, size: u32, ratio: u32) -> u32
     requires { ⌜ 0 < ratio ⌝ }
-    ensures { λ r. ⌜ ((ctb : ℕ) (boundaries : List ℕ) (line : ℕ) → r ≡ limitOf (axisOf size ctb boundaries line ratio) (positionOf found)) ⌝ }
+    ensures { λ r. ⌜ ((ctb : ℕ) (boundaries : List ℕ) (line : ℕ) → r ≡ limitOf (axisOf size ctb boundaries line ratio)
+        (positionOf found)) ⌝ }
 {
     match found {
         FoundClip::At(clip) => clip.position / ratio,
@@ -71,8 +73,9 @@ pub fn ctb_limit(size: u32, ctb: u32, q: u32) -> u32
     if end < size { end } else { size }
 }
 
-// Where the piece ends that begins at the luma position x of the CTB at place q: with the first block of 4 samples whose last one has a clip position
-// after it. With the line 4 rows above a CTB's bottom, or none, clip positions are multiples of 4, so that none stands within a block.
+// Where the piece ends that begins at the luma position x of the CTB at place q: with the first block of 4 samples whose last one has a
+// clip position after it. With the line 4 rows above a CTB's bottom, or none, clip positions are multiples of 4, so that none stands within
+// a block.
 fn piece_end(
     size: u32,
     ctb: u32,

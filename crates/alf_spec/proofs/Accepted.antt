@@ -13,7 +13,11 @@ use Rattle.alf_spec.specs.Lists.{within, implies}
 use Rattle.alf_spec.specs.Input.{Layout, Operation, given, Input}
 use Rattle.alf_spec.specs.Geometry.{ctbSize, lumaPlane, chromaPlane, blockPlane, planeLength, ctbColumns, ctbRows, ctbTotal}
 use Rattle.alf_spec.specs.Process.{outputPlane}
-use Rattle.alf_spec.specs.Faults.{sizeValid, pictureSizeValid, ctbSizeValid, bitDepthValid, chromaFormatValid, componentValid, layoutLengthsValid, filterLengthsValid, fixedLengthsValid, lengthsValid, regionLengthValid, virtualListValid, virtualBoundariesValid, tilesValid, slicesValid, subpicturesValid, regionValid, parametersValid, bankValid, fixedValid, samplesValid, positionValid, unless, layoutFault, tablesFault, fault, isolationFault, causesFault}
+use Rattle.alf_spec.specs.Faults.{sizeValid, pictureSizeValid, ctbSizeValid, bitDepthValid, chromaFormatValid, componentValid}
+use Rattle.alf_spec.specs.Faults.{layoutLengthsValid, filterLengthsValid, fixedLengthsValid, lengthsValid, regionLengthValid}
+use Rattle.alf_spec.specs.Faults.{virtualListValid, virtualBoundariesValid, tilesValid, slicesValid, subpicturesValid, regionValid}
+use Rattle.alf_spec.specs.Faults.{parametersValid, bankValid, fixedValid, samplesValid, positionValid, unless, layoutFault}
+use Rattle.alf_spec.specs.Faults.{tablesFault, fault, isolationFault, causesFault}
 use Rattle.alf_spec.proofs.Tests.{both, implied, every-entry}
 
 -- of a chain of tests that gives no number, the first passes, and what follows gives none
@@ -38,7 +42,8 @@ pub sizes-valid : (p : Picture) → pictureSizeValid p ≡ true → (sizeValid (
 unfolding pictureSizeValid
 sizes-valid p e = both (sizeValid (p .width)) (sizeValid (p .height)) e
 
-pub lists-valid : (l : Layout) → virtualBoundariesValid l ≡ true → (virtualListValid (l .picture .width) (ctbSize (l .picture)) (l .virtualColumns) ≡ true)
+pub lists-valid : (l : Layout) → virtualBoundariesValid l ≡ true
+    → (virtualListValid (l .picture .width) (ctbSize (l .picture)) (l .virtualColumns) ≡ true)
     × (virtualListValid (l .picture .height) (ctbSize (l .picture)) (l .virtualRows) ≡ true)
 unfolding virtualBoundariesValid
 lists-valid l e = both (virtualListValid (l .picture .width) (ctbSize (l .picture)) (l .virtualColumns)) _ e
@@ -115,7 +120,8 @@ unfolding isolationFault regionLengthValid
 accepted-region l region q = eqb-true (length region) _ (chain l true (regionLengthValid l region) (unless (regionValid region) 14 0) q .2)
 
 -- a layout of which the causes at a luma position are named, and the position
-pub accepted-position : (l : Layout) (x y : ℕ) → causesFault l true x y ≡ 0 → Accepted l × (x < l .picture .width) × (y < l .picture .height)
+pub accepted-position : (l : Layout) (x y : ℕ) → causesFault l true x y ≡ 0 → Accepted l × (x < l .picture .width)
+    × (y < l .picture .height)
 unfolding causesFault positionValid
 accepted-position l x y q =
     let all = chain l true true (unless (positionValid (l .picture) x y) 15 0) q in
@@ -171,7 +177,8 @@ module _ (op : Operation) (i : Input) (ok : fault op i ≡ 0) where
   unfolding tablesFault
   samples =
       let afterParameters = passed (implies (given op .filters) (parametersValid i)) 9 _ (accepted op i ok .3) .1 in
-      let afterBank = passed (implies (given op .filters) (bankValid i) && implies (given op .fixed) (fixedValid i)) 10 _ afterParameters .1 in
+      let afterBank = passed (implies (given op .filters) (bankValid i)
+      && implies (given op .fixed) (fixedValid i)) 10 _ afterParameters .1 in
       both (implies (given op .luma) lumaSamples) (implies (given op .chroma) chromaSamples) (passed _ 11 _ afterBank .0)
 
   pub luma-samples : given op .luma ≡ true → (k : ℕ) → getD (i .luma) k 0 < 2 ^ i .layout .picture .«bit_depth»

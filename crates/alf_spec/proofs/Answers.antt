@@ -6,7 +6,8 @@ use mathlib.Core.Option.{some, none}
 use Prim.Native.Nat.{ℕ, suc, pred}
 use lib.Dec.{eqb, eqb·suc-zero}
 use Rattle.alf_spec.specs.declared.Fault.{Fault}
-use Rattle.alf_spec.specs.declared.Fault.the-variants.{PictureSize, CtbSize, BitDepth, ChromaFormat, Length, VirtualBoundary, Tile, Slice, Subpicture, Parameter, Filter, Sample, Address, Region, Position}
+use Rattle.alf_spec.specs.declared.Fault.the-variants.{PictureSize, CtbSize, BitDepth, ChromaFormat, Length, VirtualBoundary, Tile}
+use Rattle.alf_spec.specs.declared.Fault.the-variants.{Slice, Subpicture, Parameter, Filter, Sample, Address, Region, Position}
 use Rattle.alf_spec.specs.declared.SideCauses.{SideCauses}
 use Rattle.alf_spec.specs.declared.Answer.{Answer}
 use Rattle.alf_spec.specs.declared.Answer.the-variants.{Accepted, Rejected}

@@ -1,4 +1,5 @@
--- One axis of an accepted picture: its size, CTBs and virtual boundaries are multiples of 8; and the CTB of a position on it. Assumes nothing.
+-- One axis of an accepted picture: its size, CTBs and virtual boundaries are multiples of 8; and the CTB of a position on it. Assumes
+-- nothing.
 use mathlib.Core.Path.{_≡_, sym}
 use mathlib.Core.Logic.{_≢_, by-cases}
 use mathlib.Core.Bool.{true}
@@ -60,7 +61,8 @@ size-of n q = eqb-true (n % 8) 0 (both (eqb (n % 8) 0) (within 8 4096 n) q .0)
 virtual-of : (size s : ℕ) (list : List ℕ) → virtualListValid size s list ≡ true → (v : ℕ) → List·Memᴰ v list → v % 8 ≡ 0
 unfolding virtualListValid
 virtual-of size s list q v m =
-    let valid = both (every (virtualPositionValid size) list) (allBelow (length list - 1) (apartAt s list)) (both (leb (length list) 3) _ q .1) .0 in
+    let valid = both (every (virtualPositionValid size) list) (allBelow (length list - 1) (apartAt s list))
+    (both (leb (length list) 3) _ q .1) .0 in
     eqb-true (v % 8) 0 (both (eqb (v % 8) 0) _ (every-mem (virtualPositionValid size) 0 list valid v m) .0)
 
 -- CTBs of 32, 64 or 128

@@ -1,5 +1,5 @@
--- 02, card 1, worked out: the causes at a sample's sides beside each kind of border, which one is named where several apply, and when a position is
--- rejected. Assumes nothing.
+-- 02, card 1, worked out: the causes at a sample's sides beside each kind of border, which one is named where several apply, and when a
+-- position is rejected. Assumes nothing.
 use mathlib.Core.Path.{_≡_, refl}
 use mathlib.Core.Bool.{Bool, true, false}
 use mathlib.Core.List.{List, [], _∷_, map}
@@ -8,13 +8,18 @@ use lib.ListN.{replicate}
 use Rattle.alf_spec.specs.Input.{Layout, layoutOf}
 use Rattle.alf_spec.specs.Lists.{allBelow, everyFrom}
 use Rattle.alf_spec.specs.Geometry.{ctbSize, planeOf}
-use Rattle.alf_spec.specs.Boundary.{sliceOf, subpicOf, tileColumnOf, tileRowOf, tileDisables, sliceDisables, subpicDisables, stepCause, columnSide, rowSide, find, lineClip, virtualClip, sideClip, clip}
+use Rattle.alf_spec.specs.Boundary.{sliceOf, subpicOf, tileColumnOf, tileRowOf, tileDisables, sliceDisables, subpicDisables}
+use Rattle.alf_spec.specs.Boundary.{stepCause, columnSide, rowSide, find, lineClip, virtualClip, sideClip, clip}
 use Rattle.alf_spec.specs.Causes.{columnCause, rowCause, causesAt}
-use Rattle.alf_spec.specs.Faults.{pictureSizeValid, ctbSizeValid, bitDepthValid, chromaFormatValid, layoutLengthsValid, apartAt, virtualListValid, virtualBoundariesValid, followsAt, tileListValid, tilesValid, cornerAt, cornersInRow, cornersValid, slicesValid, subpicturesValid, positionValid, unless, layoutFault, causesFault}
+use Rattle.alf_spec.specs.Faults.{pictureSizeValid, ctbSizeValid, bitDepthValid, chromaFormatValid, layoutLengthsValid, apartAt}
+use Rattle.alf_spec.specs.Faults.{virtualListValid, virtualBoundariesValid, followsAt, tileListValid, tilesValid, cornerAt}
+use Rattle.alf_spec.specs.Faults.{cornersInRow, cornersValid, slicesValid, subpicturesValid, positionValid, unless, layoutFault}
+use Rattle.alf_spec.specs.Faults.{causesFault}
 use Rattle.alf_spec.specs.Answers.{causeNumbers}
 
--- 64 by 64 samples, two by two CTBs of 32. The right CTBs are of another tile and subpicture than the left ones, and all but the first are of another
--- slice. Subpicture 0, on the left, has its switch off; that of subpicture 1 is on. What varies: the tile and the slice switch, and the virtual boundaries.
+-- 64 by 64 samples, two by two CTBs of 32. The right CTBs are of another tile and subpicture than the left ones, and all but the first are
+-- of another slice. Subpicture 0, on the left, has its switch off; that of subpicture 1 is on. What varies: the tile and the slice switch,
+-- and the virtual boundaries.
 abbrev quarters : Bool → Bool → List ℕ → List ℕ → Layout
 quarters tiles slices columns rows =
     layoutOf (record {
@@ -41,19 +46,26 @@ pub record CauseExamples : Type 0 where
   -- from the other side, this CTB's own subpicture switch counts, and it is on
   pub own-switch : causes (quarters true true [] []) 32 0 ≡ 0 ∷ 0 ∷ 0 ∷ 0 ∷ []
   -- a virtual boundary is tested before the CTB's side, where 32 is both
-  pub virtual-side : map (λ x. causes (quarters false false (32 ∷ []) []) x 0) (31 ∷ 32 ∷ []) ≡ (0 ∷ 0 ∷ 0 ∷ 2 ∷ []) ∷ (0 ∷ 0 ∷ 2 ∷ 0 ∷ []) ∷ []
+  pub virtual-side : map (λ x. causes (quarters false false (32 ∷ []) []) x 0) (31 ∷ 32 ∷ []) ≡ (0 ∷ 0 ∷ 0 ∷ 2 ∷ [])
+      ∷ (0 ∷ 0 ∷ 2 ∷ 0 ∷ []) ∷ []
   -- down column 8: the line is 5 below row 23 and 4 below row 24, then above, with the slice below; row 34 is the last near that slice
   pub down : map (causes (quarters false false [] []) 8) (23 ∷ 24 ∷ 28 ∷ 31 ∷ 32 ∷ 34 ∷ 35 ∷ [])
-      ≡ (0 ∷ 0 ∷ 0 ∷ 0 ∷ []) ∷ (0 ∷ 1 ∷ 0 ∷ 0 ∷ []) ∷ (1 ∷ 4 ∷ 0 ∷ 0 ∷ []) ∷ (1 ∷ 4 ∷ 0 ∷ 0 ∷ []) ∷ (4 ∷ 0 ∷ 0 ∷ 0 ∷ []) ∷ (4 ∷ 0 ∷ 0 ∷ 0 ∷ []) ∷ (0 ∷ 0 ∷ 0 ∷ 0 ∷ []) ∷ []
+      ≡ (0 ∷ 0 ∷ 0 ∷ 0 ∷ []) ∷ (0 ∷ 1 ∷ 0 ∷ 0 ∷ []) ∷ (1 ∷ 4 ∷ 0 ∷ 0 ∷ []) ∷ (1 ∷ 4 ∷ 0 ∷ 0 ∷ []) ∷ (4 ∷ 0 ∷ 0 ∷ 0 ∷ [])
+      ∷ (4 ∷ 0 ∷ 0 ∷ 0 ∷ []) ∷ (0 ∷ 0 ∷ 0 ∷ 0 ∷ []) ∷ []
   -- a virtual row where the slice begins
   pub virtual-row : map (causes (quarters false false [] (32 ∷ [])) 8) (28 ∷ 33 ∷ []) ≡ (1 ∷ 2 ∷ 0 ∷ 0 ∷ []) ∷ (2 ∷ 0 ∷ 0 ∷ 0 ∷ []) ∷ []
   -- 15 is for a position outside, on either axis, and is judged last: 6 comes first; without room for the causes it is 5
   pub accepted : causesFault (quarters false false (32 ∷ []) []) true 63 63 ≡ 0
-  pub outside : causesFault (quarters false false (32 ∷ []) []) true 64 63 ∷ causesFault (quarters false false (32 ∷ []) []) true 63 64 ∷ [] ≡ 15 ∷ 15 ∷ []
-  pub last : causesFault (quarters false false (4 ∷ []) []) true 64 63 ∷ causesFault (quarters false false (4 ∷ []) []) false 64 63 ∷ [] ≡ 6 ∷ 5 ∷ []
+  pub outside : causesFault (quarters false false (32 ∷ []) []) true 64 63 ∷ causesFault (quarters false false (32 ∷ []) []) true 63 64
+      ∷ [] ≡ 15 ∷ 15 ∷ []
+  pub last : causesFault (quarters false false (4 ∷ []) []) true 64 63 ∷ causesFault (quarters false false (4 ∷ []) []) false 64 63
+      ∷ [] ≡ 6 ∷ 5 ∷ []
 
 pub cause-examples : CauseExamples
-unfolding allBelow everyFrom ctbSize planeOf sliceOf subpicOf tileColumnOf tileRowOf tileDisables sliceDisables subpicDisables stepCause columnSide rowSide find lineClip virtualClip sideClip clip columnCause rowCause causesAt pictureSizeValid ctbSizeValid bitDepthValid chromaFormatValid layoutLengthsValid apartAt virtualListValid virtualBoundariesValid followsAt tileListValid tilesValid cornerAt cornersInRow cornersValid slicesValid subpicturesValid positionValid unless layoutFault causesFault
+unfolding allBelow everyFrom ctbSize planeOf sliceOf subpicOf tileColumnOf tileRowOf tileDisables sliceDisables subpicDisables stepCause
+    columnSide rowSide find lineClip virtualClip sideClip clip columnCause rowCause causesAt pictureSizeValid ctbSizeValid bitDepthValid
+    chromaFormatValid layoutLengthsValid apartAt virtualListValid virtualBoundariesValid followsAt tileListValid tilesValid cornerAt
+    cornersInRow cornersValid slicesValid subpicturesValid positionValid unless layoutFault causesFault
 cause-examples = record {
   rim = refl;
   order = refl;

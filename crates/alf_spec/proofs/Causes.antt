@@ -1,5 +1,5 @@
--- 02, card 1: a side is open exactly where there is no clip position; and where a CTB's side is open, neither tiles nor slices nor subpictures disable
--- filtering across it. Assumes nothing.
+-- 02, card 1: a side is open exactly where there is no clip position; and where a CTB's side is open, neither tiles nor slices nor
+-- subpictures disable filtering across it. Assumes nothing.
 use mathlib.Core.Path.{_≡_, refl}
 use mathlib.Core.Bool.{Bool, true, false, not, _&&_, cond, true≢false}
 use mathlib.Core.List.{List, [], _∷_}
@@ -12,7 +12,8 @@ use Rattle.alf_spec.specs.declared.ClipCause.{ClipCause}
 use Rattle.alf_spec.specs.declared.ClipCause.the-variants.{Open, LineBufferBoundary, VirtualBoundary, Tile, Slice, Subpicture}
 use Rattle.alf_spec.specs.Input.{Layout}
 use Rattle.alf_spec.specs.Geometry.{Side, before, after, Axis, hasLine, lumaPlane, inCtb}
-use Rattle.alf_spec.specs.Boundary.{disables, tileDisables, sliceDisables, subpicDisables, stepCause, only, _orElse_, find, near, linePosition, lineClip, virtualClip, sideClip, clip, clipPosition, causeOf}
+use Rattle.alf_spec.specs.Boundary.{disables, tileDisables, sliceDisables, subpicDisables, stepCause, only, _orElse_, find, near}
+use Rattle.alf_spec.specs.Boundary.{linePosition, lineClip, virtualClip, sideClip, clip, clipPosition, causeOf}
 use Rattle.alf_spec.specs.Padding.{isNone, columnClip, rowClip}
 use Rattle.alf_spec.specs.Causes.{columnCause, rowCause}
 use Rattle.alf_spec.proofs.Tests.{both}
@@ -68,7 +69,8 @@ module _ (a : Axis) (x : ℕ) (side : Side → ClipCause) where
   side-named : (d : Side) → Named (sideClip a x side d)
   unfolding sideClip
   side-named before = only-named (ltb (inCtb a x) 3 && disables (side before)) (side before) _ (λ t. both (ltb (inCtb a x) 3) _ t .1)
-  side-named after = only-named (ltb (a .ctb - inCtb a x) 5 && disables (side after)) (side after) _ (λ t. both (ltb (a .ctb - inCtb a x) 5) _ t .1)
+  side-named after = only-named (ltb (a .ctb - inCtb a x) 5 && disables (side after)) (side after) _
+      (λ t. both (ltb (a .ctb - inCtb a x) 5) _ t .1)
 
   clip-named : (d : Side) → Named (clip a x side d)
   unfolding clip

@@ -44,7 +44,8 @@ module _ (l : Layout) (component lengths : Bool) (rest : ℕ) where
   pub layout-rejects : {n : ℕ} → layoutFault l component lengths 0 ≡ suc n → layoutFault l component lengths rest ≡ suc n
   unfolding layoutFault
   layout-rejects =
-      further _ 1 (further _ 2 (further _ 3 (further _ 4 (further _ 5 (further _ 6 (further _ 7 (further _ 8 (further _ 9 (λ q. omega arith)))))))))
+      further _ 1 (further _ 2 (further _ 3 (further _ 4
+      (further _ 5 (further _ 6 (further _ 7 (further _ 8 (further _ 9 (λ q. omega arith)))))))))
 
   -- where it is accepted, that alone is judged
   pub layout-accepts : layoutFault l component lengths 0 ≡ 0 → layoutFault l component lengths rest ≡ rest
@@ -55,7 +56,8 @@ module _ (l : Layout) (component lengths : Bool) (rest : ℕ) where
 -- ---- a judge that goes on after the layout's
 
 -- the code has the answer v to the operation's test of 5
-pub lengths-same : (l : Layout) (component : Bool) {v lengths : Bool} → v ≡ lengths → layoutFault l component v 0 ≡ layoutFault l component lengths 0
+pub lengths-same : (l : Layout) (component : Bool) {v lengths : Bool} → v ≡ lengths
+    → layoutFault l component v 0 ≡ layoutFault l component lengths 0
 lengths-same l component e = ap (λ (b : Bool). layoutFault l component b 0) e
 
 -- the code has the layout's answer a, where c and v are its own answers to the operation's tests of 4 and 5

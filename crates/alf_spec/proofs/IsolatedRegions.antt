@@ -1,5 +1,5 @@
--- Isolated regions: what a filter reads for a sample inside one lies inside (Reads), so its results inside are the same in two runs (Results);
--- and which regions are isolated (SwitchedOff, SmallRegions, Borders).
+-- Isolated regions: what a filter reads for a sample inside one lies inside (Reads), so its results inside are the same in two runs
+-- (Results); and which regions are isolated (SwitchedOff, SmallRegions, Borders).
 pub mod Borders
 pub mod Cells
 pub mod Clamping

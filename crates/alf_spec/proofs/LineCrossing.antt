@@ -1,5 +1,5 @@
--- A read that does not cross the line-buffer boundary is the same where there is none; and no read of a chroma tap crosses it. So a chroma filter
--- may read as if there were no line. Assumes nothing.
+-- A read that does not cross the line-buffer boundary is the same where there is none; and no read of a chroma tap crosses it. So a chroma
+-- filter may read as if there were no line. Assumes nothing.
 use mathlib.Core.Path.{_≡_, refl, ap, _∙_}
 use mathlib.Core.Logic.{_⊎_, inl, inr, ⊎-elim, _≢_, by-cases}
 use mathlib.Core.Bool.{Bool, true, false, _&&_, false≢true}
@@ -15,13 +15,17 @@ use Rattle.alf_spec.specs.declared.ClipCause.{ClipCause}
 use Rattle.alf_spec.specs.declared.ClipCause.the-variants.{LineBufferBoundary}
 use Rattle.alf_spec.specs.declared.ChromaRows.{ChromaRows}
 use Rattle.alf_spec.specs.Input.{Layout, Input}
-use Rattle.alf_spec.specs.Geometry.{Side, before, after, Axis, Plane, hasLine, subWidth, subHeight, planeOf, chromaPlane, samples, lumaPosition, ctbStart, inCtb, ctbAt, lineRule, bottomDistance}
-use Rattle.alf_spec.specs.Boundary.{rowSide, cornerDisabled, only, _orElse_, near, linePosition, lineClip, virtualClip, sideClip, clip, clipPosition}
-use Rattle.alf_spec.specs.Padding.{isNone, lowest, limit, clamped, ctbEnd, pastCtb, columnClip, rowClip, clampedColumn, clampedRow, pastCorner, paddedColumn, paddedRow, read}
+use Rattle.alf_spec.specs.Geometry.{Side, before, after, Axis, Plane, hasLine, subWidth, subHeight, planeOf, chromaPlane, samples}
+use Rattle.alf_spec.specs.Geometry.{lumaPosition, ctbStart, inCtb, ctbAt, lineRule, bottomDistance}
+use Rattle.alf_spec.specs.Boundary.{rowSide, cornerDisabled, only, _orElse_, near, linePosition, lineClip, virtualClip, sideClip}
+use Rattle.alf_spec.specs.Boundary.{clip, clipPosition}
+use Rattle.alf_spec.specs.Padding.{isNone, lowest, limit, clamped, ctbEnd, pastCtb, columnClip, rowClip, clampedColumn, clampedRow}
+use Rattle.alf_spec.specs.Padding.{pastCorner, paddedColumn, paddedRow, read}
 use Rattle.alf_spec.specs.Chroma.{chromaRows, chromaRowsAt, chromaRead}
 use Rattle.alf_spec.proofs.Tests.{both}
 use Rattle.alf_spec.proofs.Axes.{Regular, upper, parts}
-use Rattle.alf_spec.proofs.IsolatedRegions.Ratios.{Ratio, whole, half, LineFits, no-line, chroma-ratios, chroma-line, own-le, own-lt, lt-own}
+use Rattle.alf_spec.proofs.IsolatedRegions.Ratios.{Ratio, whole, half, LineFits, no-line, chroma-ratios, chroma-line, own-le, own-lt}
+use Rattle.alf_spec.proofs.IsolatedRegions.Ratios.{lt-own}
 use Rattle.alf_spec.proofs.IsolatedRegions.Clamping.{low, kept}
 use Rattle.alf_spec.proofs.IsolatedRegions.ClipPositions.{Ends, stops, runs, Near, near-yes, Found, clip-found, bound8}
 
@@ -65,7 +69,8 @@ line-first : (x b : ℕ) (n r : Option Clip) → Lined before x b n → Differ b
 line-first x b _ r (lined e s) = inr (ap some e, s)
 line-first x b _ r unlined-here = inl refl
 
-line-second : (x b : ℕ) (w n r : Option Clip) → Lined after x b n → Differ after x b (position (w orElse (n orElse r))) (position (w orElse r))
+line-second : (x b : ℕ) (w n r : Option Clip) → Lined after x b n → Differ after x b (position (w orElse (n orElse r)))
+    (position (w orElse r))
 line-second x b (some c) _ r l = inl refl
 line-second x b none _ r (lined e s) = inr (ap some e, s)
 line-second x b none _ r unlined-here = inl refl
@@ -93,11 +98,13 @@ not-before : (r : ℕ) → Ratio r → (start ctb line t : ℕ) → (start + (ct
 not-before _ whole start ctb line t h = omega arith
 not-before _ half start ctb line t h = omega arith
 
-not-after : (r : ℕ) → Ratio r → (start ctb line t : ℕ) → start % 8 ≡ 0 → ctb % 8 ≡ 0 → t < (start + (ctb - line)) / r → t ≤ pred (start / r + ctb / r)
+not-after : (r : ℕ) → Ratio r → (start ctb line t : ℕ) → start % 8 ≡ 0 → ctb % 8 ≡ 0 → t < (start + (ctb - line)) / r
+    → t ≤ pred (start / r + ctb / r)
 not-after _ whole start ctb line t q k h = omega arith
 not-after _ half start ctb line t q k h = omega arith
 
-module _ (a : Axis) (ok : Regular a) (ratio : Ratio (a .ratio)) (fits : LineFits (a .line)) (side : Side → ClipCause) (x p : ℕ) (inX : x < samples a)
+module _ (a : Axis) (ok : Regular a) (ratio : Ratio (a .ratio)) (fits : LineFits (a .line)) (side : Side → ClipCause) (x p : ℕ)
+    (inX : x < samples a)
     (un : Uncrossed a x p) where
   abbrev X : ℕ
   X = lumaPosition a x
@@ -140,7 +147,8 @@ module _ (a : Axis) (ok : Regular a) (ratio : Ratio (a .ratio)) (fits : LineFits
       → Ends (Found (unlined a) X side after) N c → w < limit a c
   below _ w h k g g′ (stops f) = own-lt (a .ratio) ratio _ w (f .stop .0) (by _ (f .stop .1) (f .place))
     where
-      by : (e : ℕ) → X < e → ((hasLine (unlined a) ≡ true) × (e ≡ linePosition (unlined a) X)) ⊎ ((e % 8 ≡ 0) × Near after X e) → w * a .ratio < e
+      by : (e : ℕ) → X < e → ((hasLine (unlined a) ≡ true) × (e ≡ linePosition (unlined a) X)) ⊎ ((e % 8 ≡ 0) × Near after X e)
+          → w * a .ratio < e
       by e l (inl q) = absurd (false≢true (q .0))
       by e l (inr n) = omega (arith, lt-own (a .ratio) L w g, upper a ok X, bound8 a ok X before, ok .ctb8, ok .big, fits .1)
   below _ w h k g g′ (runs n) = g′
@@ -187,7 +195,8 @@ module _ (a : Axis) (ok : Regular a) (ratio : Ratio (a .ratio)) (fits : LineFits
   pub past-same : (d : Side) → (pastCtb a d x t && isNone (o d)) ≡ (pastCtb a d x t && isNone (o0 d))
   past-same before = by (differ a ok side X before)
     where
-      by : Differ before X L (o before) (o0 before) → (pastCtb a before x t && isNone (o before)) ≡ (pastCtb a before x t && isNone (o0 before))
+      by : Differ before X L (o before) (o0 before) → (pastCtb a before x t && isNone (o before)) ≡ (pastCtb a before x t
+          && isNone (o0 before))
       by (inl e) = rw e
       by (inr e) =
           let l : L / a .ratio ≤ t = rw (← (ap (lowest a) (e .0))) (held .0) in
@@ -198,16 +207,19 @@ module _ (a : Axis) (ok : Regular a) (ratio : Ratio (a .ratio)) (fits : LineFits
       by (inl e) = rw e
       by (inr e) =
           let l : t < L / a .ratio = rw (← (ap (limit a) (e .0))) (held .1) in
-          rw (le-ltb (ctbEnd a after x) t (not-after (a .ratio) ratio (ctbStart a X) (a .ctb) (a .line) t (bound8 a ok X before) (ok .ctb8) l))
+          rw (le-ltb (ctbEnd a after x) t (not-after (a .ratio) ratio (ctbStart a X) (a .ctb) (a .line) t
+          (bound8 a ok X before) (ok .ctb8) l))
 
 -- ---- reads
 
 -- of the parts of the corner rule, those of the row
-part-same : (c k rest b b0 : Bool) {r r0 : Bool} → r ≡ r0 → (r && b) ≡ (r && b0) → (c && (r && (k && (b && rest)))) ≡ (c && (r0 && (k && (b0 && rest))))
+part-same : (c k rest b b0 : Bool) {r r0 : Bool} → r ≡ r0 → (r && b) ≡ (r && b0)
+    → (c && (r && (k && (b && rest)))) ≡ (c && (r0 && (k && (b0 && rest))))
 part-same c k rest b b0 {r = true} h e = rw (← h, e)
 part-same c k rest b b0 {r = false} h e = rw (← h)
 
-module _ (l : Layout) (columnRatio rowRatio line : ℕ) (ok : Regular (planeOf l columnRatio rowRatio line .rows)) (rr : Ratio rowRatio) (rl : LineFits line) (x y p q : ℕ)
+module _ (l : Layout) (columnRatio rowRatio line : ℕ) (ok : Regular (planeOf l columnRatio rowRatio line .rows)) (rr : Ratio rowRatio)
+    (rl : LineFits line) (x y p q : ℕ)
     (inY : y < samples (planeOf l columnRatio rowRatio line .rows)) (un : Uncrossed (planeOf l columnRatio rowRatio line .rows) y q) where
   abbrev g : Plane
   g = planeOf l columnRatio rowRatio line
@@ -247,7 +259,8 @@ table d =
     rest d n2 n3 n1 n4 = by-cases (decLe d 2) (λ l. inl (omega arith)) (λ l. inr (omega arith))
 
 -- a row y at distance d, in a CTB that begins at b, of s luma rows; i of them lie above the row
-module _ (b s i y q n m : ℕ) (b8 : b % 8 ≡ 0) (s8 : s % 8 ≡ 0) (big : 8 ≤ s) (inCtb : i < s) (near : y ≤ q + n) (near′ : q ≤ y + n) (inM : y < m) where
+module _ (b s i y q n m : ℕ) (b8 : b % 8 ≡ 0) (s8 : s % 8 ≡ 0) (big : 8 ≤ s) (inCtb : i < s) (near : y ≤ q + n) (near′ : q ≤ y + n)
+    (inM : y < m) where
   -- at the line or below it
   stays-below : (r : ℕ) → Ratio r → b + i ≡ y * r → s / r - i / r ≤ 2 → n + (s / r - i / r) ≤ 2
       → (b + (s - 2 * r) ≤ y * r) × (b + (s - 2 * r) ≤ min q (pred m) * r)
@@ -280,12 +293,17 @@ module _ (l : Layout) (regular : Regular (chromaPlane l .rows)) (y q : ℕ) (inY
   unfolding lineRule bottomDistance planeOf
   chroma-uncrossed = by (lineRule rows Y) refl
     where
-      by : (t : Bool) → lineRule rows Y ≡ t → y ≤ q + chromaRows t (bottomDistance rows y) .y2 → q ≤ y + chromaRows t (bottomDistance rows y) .y2
+      by : (t : Bool) → lineRule rows Y ≡ t → y ≤ q + chromaRows t (bottomDistance rows y) .y2
+          → q ≤ y + chromaRows t (bottomDistance rows y) .y2
           → Uncrossed rows y q
       by true e h k = ⊎-elim
-          (λ d. let z = stays-below (ctbStart rows Y) (rows .ctb) (inCtb rows Y) y q _ (samples rows) (bound8 rows regular Y before) (regular .ctb8) (regular .big) (omega (arith, parts rows Y, upper rows regular Y)) h k inY (rows .ratio) ratio (parts rows Y) (d .0) (d .1) in
+          (λ d. let z = stays-below (ctbStart rows Y) (rows .ctb) (inCtb rows Y) y q _ (samples rows) (bound8 rows regular Y before)
+          (regular .ctb8) (regular .big) (omega (arith, parts rows Y, upper rows regular Y)) h k inY (rows .ratio) ratio (parts rows Y)
+          (d .0) (d .1) in
           record { up = λ _. z .1; down = λ g. absurd (omega arith) })
-          (λ d. let z = stays-above (ctbStart rows Y) (rows .ctb) (inCtb rows Y) y q _ (samples rows) (bound8 rows regular Y before) (regular .ctb8) (regular .big) (omega (arith, parts rows Y, upper rows regular Y)) h k inY (rows .ratio) ratio (parts rows Y) (d .0) (d .1) in
+          (λ d. let z = stays-above (ctbStart rows Y) (rows .ctb) (inCtb rows Y) y q _ (samples rows) (bound8 rows regular Y before)
+          (regular .ctb8) (regular .big) (omega (arith, parts rows Y, upper rows regular Y)) h k inY (rows .ratio) ratio (parts rows Y)
+          (d .0) (d .1) in
           record { up = λ g. absurd (omega arith); down = λ _. z .1 })
           (table (bottomDistance rows y))
       by false e h k =
@@ -297,10 +315,12 @@ module _ (l : Layout) (regular : Regular (chromaPlane l .rows)) (y q : ℕ) (inY
           record { up = λ g. absurd (omega arith); down = λ g. omega arith }
 
 -- so what a tap reads is what it reads in a plane without the line
-pub chroma-read : (i : Input) → Regular (chromaPlane (i .layout) .rows) → (component x y : ℕ) → y < samples (chromaPlane (i .layout) .rows) → (p q : ℕ)
+pub chroma-read : (i : Input) → Regular (chromaPlane (i .layout) .rows) → (component x y : ℕ)
+    → y < samples (chromaPlane (i .layout) .rows) → (p q : ℕ)
     → y ≤ q + chromaRowsAt i component x y .y2 → q ≤ y + chromaRowsAt i component x y .y2
     → chromaRead i component x y (p, q)
     ≡ read (i .layout) (planeOf (i .layout) (subWidth (i .layout .picture)) (subHeight (i .layout .picture)) 0) x y (i .chroma) p q
 chroma-read i ok component x y inY p q h k =
     let ratios = chroma-ratios (i .layout .picture) in
-    read-apart (i .layout) _ _ _ ok (ratios .1) (chroma-line (ratios .1)) x y p q inY (chroma-uncrossed (i .layout) ok y q inY h k) (i .chroma)
+    read-apart (i .layout) _ _ _ ok (ratios .1) (chroma-line (ratios .1)) x y p q inY
+    (chroma-uncrossed (i .layout) ok y q inY h k) (i .chroma)

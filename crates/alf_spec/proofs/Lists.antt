@@ -23,7 +23,8 @@ tabulate-at (suc n) f (suc k) h = tabulate-at n (λ k. f (suc k)) k (le-of-suc-l
 pub tabulate-same : (n : ℕ) (f g : ℕ → ℕ) → ((k : ℕ) → k < n → f k ≡ g k) → tabulate n f ≡ tabulate n g
 unfolding tabulate
 tabulate-same zero f g e = refl
-tabulate-same (suc n) f g e = λ t. e zero (zero-lt-suc n) t ∷ tabulate-same n (λ k. f (suc k)) (λ k. g (suc k)) (λ k h. e (suc k) (suc-le-suc h)) t
+tabulate-same (suc n) f g e = λ t. e zero (zero-lt-suc n) t ∷ tabulate-same n (λ k. f (suc k)) (λ k. g (suc k))
+    (λ k h. e (suc k) (suc-le-suc h)) t
 
 pub sum-same : (n : ℕ) (f g : ℕ → ℕ) → ((k : ℕ) → k < n → f k ≡ g k) → sumBelow n f ≡ sumBelow n g
 unfolding sumBelow

@@ -1,11 +1,13 @@
 -- The samples of a plane, by column and row and by index; CTBs, by column and row and by address. Assumes nothing.
 use mathlib.Core.Path.{_≡_, _∙_}
 use Prim.Native.Nat.{ℕ, zero, suc, _+_, _*_, _/_, _%_, _<_}
-use native.Mathlib.Nat.{zero-mul, zero-lt-suc, not-suc-le-zero, mul-comm, mul-le-mul-left, mul-add-mod-self-right, mod-eq-of-lt, mod-lt, div-eq-of-lt-le, div-lt-iff-lt-mul, div-add-mod'}
+use native.Mathlib.Nat.{zero-mul, zero-lt-suc, not-suc-le-zero, mul-comm, mul-le-mul-left, mul-add-mod-self-right, mod-eq-of-lt, mod-lt}
+use native.Mathlib.Nat.{div-eq-of-lt-le, div-lt-iff-lt-mul, div-add-mod'}
 use native.Mathlib.Omega.{arith}
 use Rattle.alf_spec.specs.declared.Ctb.{Ctb}
 use Rattle.alf_spec.specs.Input.{Layout}
-use Rattle.alf_spec.specs.Geometry.{Plane, samples, planeLength, indexOf, columnOf, rowOf, ctbColumns, ctbRows, ctbTotal, address, ctbOf}
+use Rattle.alf_spec.specs.Geometry.{Plane, samples, planeLength, indexOf, columnOf, rowOf, ctbColumns, ctbRows, ctbTotal, address}
+use Rattle.alf_spec.specs.Geometry.{ctbOf}
 
 -- the place at column x and row y, of a grid that is counted row by row
 module _ (columns rows x y : ℕ) (column : x < columns) (row : y < rows) where

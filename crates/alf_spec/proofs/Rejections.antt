@@ -11,7 +11,13 @@ use Rattle.alf_spec.specs.Lists.{allBelow, everyFrom}
 use Rattle.alf_spec.specs.Geometry.{ctbSize, subWidth, subHeight, planeOf}
 use Rattle.alf_spec.specs.Boundary.{sliceOf}
 use Rattle.alf_spec.specs.Parameters.{ctbParam, sliceParam}
-use Rattle.alf_spec.specs.Faults.{sizeValid, pictureSizeValid, ctbSizeValid, bitDepthValid, chromaFormatValid, componentValid, layoutLengthsValid, filterLengthsValid, fixedLengthsValid, lengthsValid, apartAt, virtualListValid, virtualBoundariesValid, followsAt, tileListValid, tilesValid, cornerAt, cornersInRow, cornersValid, slicesValid, subpicturesValid, sliceParamsValid, ctbRangesValid, ctbChromaZero, ctbParamsValidAt, parametersValid, coeffValid, clipValid, isClip, bankNumberValid, bankValid, fixedValid, samplesValid, addressesValid, regionLengthValid, regionValid, unless, layoutFault, tablesFault, fault, isolationFault}
+use Rattle.alf_spec.specs.Faults.{sizeValid, pictureSizeValid, ctbSizeValid, bitDepthValid, chromaFormatValid, componentValid}
+use Rattle.alf_spec.specs.Faults.{layoutLengthsValid, filterLengthsValid, fixedLengthsValid, lengthsValid, apartAt, virtualListValid}
+use Rattle.alf_spec.specs.Faults.{virtualBoundariesValid, followsAt, tileListValid, tilesValid, cornerAt, cornersInRow, cornersValid}
+use Rattle.alf_spec.specs.Faults.{slicesValid, subpicturesValid, sliceParamsValid, ctbRangesValid, ctbChromaZero, ctbParamsValidAt}
+use Rattle.alf_spec.specs.Faults.{parametersValid, coeffValid, clipValid, isClip, bankNumberValid, bankValid, fixedValid}
+use Rattle.alf_spec.specs.Faults.{samplesValid, addressesValid, regionLengthValid, regionValid, unless, layoutFault, tablesFault}
+use Rattle.alf_spec.specs.Faults.{fault, isolationFault}
 use Rattle.alf_spec.proofs.Examples.{picture, layout}
 
 -- ---- a picture of two by two CTBs of 32, of which a number or a list can be chosen
@@ -77,7 +83,8 @@ ofSubpictures subpics switch = mapped good [] (0 ∷ 1 ∷ []) (1 ∷ 0 ∷ 0 �
 abbrev ofCtbNumber : ℕ → ℕ → Input
 ofCtbNumber k v = onTables (set (zeros 22) 0 1) (set (zeros 32) (8 + k) v) [] [] []
 
--- ---- the claim. A cause has one row with the number that the whole input is given; what else it must reject or pass is put to its own test.
+-- ---- the claim. A cause has one row with the number that the whole input is given; what else it must reject or pass is put to its own
+-- test.
 
 pub record Rejections : Type 0 where
   -- accepted, by each kind of operation
@@ -93,7 +100,8 @@ pub record Rejections : Type 0 where
   pub depths : map (λ b. bitDepthValid (sized 40 5 b 1 2)) (7 ∷ 8 ∷ 12 ∷ 13 ∷ []) ≡ false ∷ true ∷ true ∷ false ∷ []
   pub r3 : fault luma (onLayout (plain (sized 40 5 13 1 2))) ≡ 3
   pub formats : map (λ k. chromaFormatValid (sized 40 5 8 k 2)) (0 ∷ 1 ∷ 2 ∷ 3 ∷ 4 ∷ []) ≡ true ∷ true ∷ true ∷ true ∷ false ∷ []
-  pub r4 : fault luma (onLayout (plain (sized 40 5 8 4 2))) ∷ fault (chroma 0) (onLayout (plain (sized 40 5 8 0 2))) ∷ fault (crossComponent 2) (onLayout (plain good)) ∷ []
+  pub r4 : fault luma (onLayout (plain (sized 40 5 8 4 2))) ∷ fault (chroma 0) (onLayout (plain (sized 40 5 8 0 2)))
+      ∷ fault (crossComponent 2) (onLayout (plain good)) ∷ []
       ≡ 4 ∷ 4 ∷ 4 ∷ []
   pub counts : map (λ n. layoutLengthsValid (plain (sized 40 5 8 1 n))) (0 ∷ 1 ∷ 256 ∷ 257 ∷ []) ≡ false ∷ true ∷ true ∷ false ∷ []
   pub r5 : map (λ n. fault luma (onLayout (plain (sized 40 5 8 1 n)))) (257 ∷ 3 ∷ []) ≡ 5 ∷ 5 ∷ []
@@ -107,21 +115,28 @@ pub record Rejections : Type 0 where
   pub tile-columns : map (λ t. tilesValid (ofTiles t)) ((0 ∷ 1 ∷ []) ∷ (1 ∷ 1 ∷ []) ∷ (0 ∷ 2 ∷ []) ∷ []) ≡ true ∷ false ∷ false ∷ []
   pub r7 : fault luma (onLayout (ofTiles (0 ∷ 2 ∷ []))) ≡ 7
   -- slice maps that the corner rule allows, and numbers that are not below the slice count
-  pub slices : map (λ s. slicesValid (ofSlices s)) ((1 ∷ 0 ∷ 0 ∷ 0 ∷ []) ∷ (0 ∷ 0 ∷ 0 ∷ 1 ∷ []) ∷ (0 ∷ 1 ∷ 1 ∷ 0 ∷ []) ∷ (0 ∷ 0 ∷ 1 ∷ 1 ∷ []) ∷ []) ≡ replicate 4 true
+  pub slices : map (λ s. slicesValid (ofSlices s)) ((1 ∷ 0 ∷ 0 ∷ 0 ∷ []) ∷ (0 ∷ 0 ∷ 0 ∷ 1 ∷ []) ∷ (0 ∷ 1 ∷ 1 ∷ 0 ∷ [])
+      ∷ (0 ∷ 0 ∷ 1 ∷ 1 ∷ []) ∷ []) ≡ replicate 4 true
   pub slice-numbers : map (λ s. slicesValid (ofSlices s)) ((0 ∷ 0 ∷ 0 ∷ 2 ∷ []) ∷ (2 ∷ 0 ∷ 0 ∷ 0 ∷ []) ∷ []) ≡ false ∷ false ∷ []
   pub r8 : fault luma (onLayout (ofSlices (0 ∷ 0 ∷ 0 ∷ 2 ∷ []))) ≡ 8
   -- the same of subpicture maps, and of switches
-  pub subpictures : map (λ s. subpicturesValid (ofSubpictures s 0)) ((0 ∷ 63 ∷ 0 ∷ 63 ∷ []) ∷ (0 ∷ 1 ∷ 2 ∷ 3 ∷ []) ∷ (0 ∷ 0 ∷ 1 ∷ 2 ∷ []) ∷ (1 ∷ 0 ∷ 0 ∷ 1 ∷ []) ∷ []) ≡ replicate 4 true
-  pub subpicture-numbers : map (λ s. subpicturesValid (ofSubpictures s 1)) ((64 ∷ 64 ∷ 64 ∷ 64 ∷ []) ∷ (0 ∷ 0 ∷ 64 ∷ 64 ∷ []) ∷ []) ≡ false ∷ false ∷ []
+  pub subpictures : map (λ s. subpicturesValid (ofSubpictures s 0)) ((0 ∷ 63 ∷ 0 ∷ 63 ∷ []) ∷ (0 ∷ 1 ∷ 2 ∷ 3 ∷ []) ∷ (0 ∷ 0 ∷ 1 ∷ 2 ∷ [])
+      ∷ (1 ∷ 0 ∷ 0 ∷ 1 ∷ []) ∷ []) ≡ replicate 4 true
+  pub subpicture-numbers : map (λ s. subpicturesValid (ofSubpictures s 1)) ((64 ∷ 64 ∷ 64 ∷ 64 ∷ []) ∷ (0 ∷ 0 ∷ 64 ∷ 64 ∷ []) ∷ [])
+      ≡ false ∷ false ∷ []
   pub switches : map (λ n. subpicturesValid (ofSubpictures (zeros 4) n)) (0 ∷ 1 ∷ 2 ∷ []) ≡ true ∷ true ∷ false ∷ []
   pub r9 : fault luma (onLayout (ofSubpictures (0 ∷ 0 ∷ 64 ∷ 64 ∷ []) 1)) ≡ 9
   -- each number of a CTB at its largest, and one above it
-  pub ctb-largest : map (λ k. parametersValid (ofCtbNumber k (getD (1 ∷ 1 ∷ 1 ∷ 16 ∷ 7 ∷ 7 ∷ 4 ∷ 4 ∷ []) k 0))) (0 ∷ 1 ∷ 2 ∷ 3 ∷ 4 ∷ 5 ∷ 6 ∷ 7 ∷ []) ≡ replicate 8 true
-  pub ctb-above : map (λ k. parametersValid (ofCtbNumber k (getD (2 ∷ 2 ∷ 2 ∷ 17 ∷ 8 ∷ 8 ∷ 5 ∷ 5 ∷ []) k 0))) (0 ∷ 1 ∷ 2 ∷ 3 ∷ 4 ∷ 5 ∷ 6 ∷ 7 ∷ []) ≡ replicate 8 false
+  pub ctb-largest : map (λ k. parametersValid (ofCtbNumber k (getD (1 ∷ 1 ∷ 1 ∷ 16 ∷ 7 ∷ 7 ∷ 4 ∷ 4 ∷ []) k 0))) (0 ∷ 1 ∷ 2 ∷ 3 ∷ 4
+      ∷ 5 ∷ 6 ∷ 7 ∷ []) ≡ replicate 8 true
+  pub ctb-above : map (λ k. parametersValid (ofCtbNumber k (getD (2 ∷ 2 ∷ 2 ∷ 17 ∷ 8 ∷ 8 ∷ 5 ∷ 5 ∷ []) k 0))) (0 ∷ 1 ∷ 2 ∷ 3 ∷ 4 ∷ 5
+      ∷ 6 ∷ 7 ∷ []) ≡ replicate 8 false
   pub r10 : fault luma (onTables (set (zeros 22) 21 8) (zeros 32) flat (zeros 1600) []) ≡ 10
   -- clips up to 2^B, where coefficients end at 127: numbers 12 and 606 of an APS are clips, 0 and 751 coefficients
-  pub bank-in : map (λ n. bankNumberValid 8 n (pos 256)) (12 ∷ 606 ∷ []) ++ map (λ n. bankNumberValid 8 n (negsuc 127)) (0 ∷ 751 ∷ []) ≡ replicate 4 true
-  pub bank-out : bankNumberValid 8 12 (negsuc 0) ∷ bankNumberValid 8 606 (pos 257) ∷ bankNumberValid 8 0 (negsuc 128) ∷ bankNumberValid 8 751 (pos 128) ∷ [] ≡ replicate 4 false
+  pub bank-in : map (λ n. bankNumberValid 8 n (pos 256)) (12 ∷ 606 ∷ []) ++ map (λ n. bankNumberValid 8 n (negsuc 127)) (0 ∷ 751 ∷ [])
+      ≡ replicate 4 true
+  pub bank-out : bankNumberValid 8 12 (negsuc 0) ∷ bankNumberValid 8 606 (pos 257) ∷ bankNumberValid 8 0 (negsuc 128)
+      ∷ bankNumberValid 8 751 (pos 128) ∷ [] ≡ replicate 4 false
   pub r11 : fault luma (onTables (zeros 22) (zeros 32) (set flat 6015 (pos 128)) (zeros 1600) []) ≡ 11
   pub r12 : fault luma (onTables (zeros 22) (zeros 32) flat (set (zeros 1600) 1599 256) []) ≡ 12
   pub r13 : fault luma (onTables (zeros 22) (zeros 32) flat (zeros 1600) (0 ∷ 4 ∷ [])) ≡ 13
@@ -130,7 +145,11 @@ pub record Rejections : Type 0 where
   pub lowest : fault luma (smallInput (plain (sized 12 8 13 2 0)) [] [] [] [] (9 ∷ []) 0) ≡ 1
 
 pub rejections : Rejections
-unfolding allBelow everyFrom ctbSize subWidth subHeight planeOf sliceOf ctbParam sliceParam pictureSizeValid ctbSizeValid bitDepthValid chromaFormatValid componentValid layoutLengthsValid filterLengthsValid fixedLengthsValid lengthsValid apartAt virtualListValid virtualBoundariesValid followsAt tileListValid tilesValid cornerAt cornersInRow cornersValid slicesValid subpicturesValid sliceParamsValid ctbRangesValid ctbChromaZero ctbParamsValidAt parametersValid coeffValid clipValid isClip bankNumberValid bankValid fixedValid samplesValid addressesValid regionLengthValid regionValid unless layoutFault tablesFault fault isolationFault
+unfolding allBelow everyFrom ctbSize subWidth subHeight planeOf sliceOf ctbParam sliceParam pictureSizeValid ctbSizeValid bitDepthValid
+    chromaFormatValid componentValid layoutLengthsValid filterLengthsValid fixedLengthsValid lengthsValid apartAt virtualListValid
+    virtualBoundariesValid followsAt tileListValid tilesValid cornerAt cornersInRow cornersValid slicesValid subpicturesValid
+    sliceParamsValid ctbRangesValid ctbChromaZero ctbParamsValidAt parametersValid coeffValid clipValid isClip bankNumberValid bankValid
+    fixedValid samplesValid addressesValid regionLengthValid regionValid unless layoutFault tablesFault fault isolationFault
 rejections = record {
   accepts = refl;
   accepts-chroma = refl;

@@ -1,4 +1,5 @@
--- How a loop finds whether every entry passes a test: each loop over a table, whatever its entries are, stands on these laws. Assumes nothing.
+-- How a loop finds whether every entry passes a test: each loop over a table, whatever its entries are, stands on these laws. Assumes
+-- nothing.
 use mathlib.Core.Path.{_≡_, refl, sym, _∙_}
 use mathlib.Core.Bool.{Bool, true, false, not, _&&_, false≢true}
 use mathlib.Core.List.{List}
@@ -13,7 +14,8 @@ use Rattle.alf_spec.specs.Lists.{allBelow, everyFrom, every}
 use Rattle.alf_spec.proofs.Tests.{same-test, all-at, at-all, every-at, at-every}
 
 -- a test of every entry is one of every place
-pub every-place : {A : Type 0} (d : A) (test : ℕ → A → Bool) (xs : List A) → everyFrom 0 test xs ≡ allBelow (length xs) (λ k. test k (getD xs k d))
+pub every-place : {A : Type 0} (d : A) (test : ℕ → A → Bool) (xs : List A)
+    → everyFrom 0 test xs ≡ allBelow (length xs) (λ k. test k (getD xs k d))
 every-place d test xs =
     same-test _ _
     (λ e. at-all (length xs) _ (λ k h. rw zero-add at (every-at d 0 test xs e k h)))
@@ -34,7 +36,8 @@ pub sofar-none : (n : ℕ) (test : ℕ → Bool) → Sofar n test 0 true
 unfolding allBelow
 sofar-none n test = record { within = omega arith; sofar = refl }
 
-pub sofar-more : {n : ℕ} {test : ℕ → Bool} {i : ℕ} {good : Bool} → Sofar n test i good → i < n → {r : Bool} → r ≡ test i → Sofar n test (i + 1) (good && r)
+pub sofar-more : {n : ℕ} {test : ℕ → Bool} {i : ℕ} {good : Bool} → Sofar n test i good → i < n → {r : Bool} → r ≡ test i
+    → Sofar n test (i + 1) (good && r)
 unfolding allBelow
 sofar-more s h e = record { within = omega arith; sofar = rw (add-one, s .sofar, e) }
 

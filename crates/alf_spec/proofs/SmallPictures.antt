@@ -1,6 +1,6 @@
--- Samples of small pictures worked out by the definitions: classes and the three filters, with rows on both sides of the line-buffer boundary. The
--- numbers were found by a separate model of H.266 and paper 01 that goes sample by sample. Whole pictures stand in the crate `spec_examples`, since they
--- take long to compute. Assumes nothing.
+-- Samples of small pictures worked out by the definitions: classes and the three filters, with rows on both sides of the line-buffer
+-- boundary. The numbers were found by a separate model of H.266 and paper 01 that goes sample by sample. Whole pictures stand in the crate
+-- `spec_examples`, since they take long to compute. Assumes nothing.
 use mathlib.Core.Path.{_≡_, refl}
 use mathlib.Core.Bool.{Bool, true, false, _&&_, _||_, cond}
 use mathlib.Core.List.{List, [], _∷_, _++_, map}
@@ -12,10 +12,14 @@ use Rattle.alf_spec.specs.Input.{Input, classes}
 use Rattle.alf_spec.specs.Lists.{allBelow, everyFrom, elem, sumBelow, sumBelowℤ, tabulate, painted}
 use Rattle.alf_spec.specs.Arithmetic.{clip3, distance, rounded, clipSample, clippedChange, tap, tapSum, filtered}
 use Rattle.alf_spec.specs.Geometry.{lumaPlane, ctbSize, subWidth, subHeight, planeOf, lineRule, bottomDistance}
-use Rattle.alf_spec.specs.Boundary.{sliceOf, subpicOf, tileColumnOf, tileRowOf, tileDisables, sliceDisables, subpicDisables, stepCause, columnSide, rowSide, cornerDisabled, find, lineClip, virtualClip, sideClip, clip, clipPosition}
+use Rattle.alf_spec.specs.Boundary.{sliceOf, subpicOf, tileColumnOf, tileRowOf, tileDisables, sliceDisables, subpicDisables}
+use Rattle.alf_spec.specs.Boundary.{stepCause, columnSide, rowSide, cornerDisabled, find, lineClip, virtualClip, sideClip, clip}
+use Rattle.alf_spec.specs.Boundary.{clipPosition}
 use Rattle.alf_spec.specs.Padding.{columnClip, rowClip, pastCorner, paddedColumn, paddedRow, read}
 use Rattle.alf_spec.specs.Parameters.{ctbParam, sliceParam, bankNumber, fixedCoeff}
-use Rattle.alf_spec.specs.Classes.{classWindow, filtH, filtV, filtD0, filtD1, windowRows, windowSum, windowSums, larger, diagonal, mainGradient, otherGradient, strength, activity, transposeIdx, filtIdx, classOfSums, classOf, blockClass}
+use Rattle.alf_spec.specs.Classes.{classWindow, filtH, filtV, filtD0, filtD1, windowRows, windowSum, windowSums, larger, diagonal}
+use Rattle.alf_spec.specs.Classes.{mainGradient, otherGradient, strength, activity, transposeIdx, filtIdx, classOfSums, classOf}
+use Rattle.alf_spec.specs.Classes.{blockClass}
 use Rattle.alf_spec.specs.Luma.{lumaF, lumaC, tapOrder, lumaRows, lumaPlus, lumaMinus, lumaWith, lumaSample}
 use Rattle.alf_spec.specs.Chroma.{chromaRows, chromaPlus, chromaMinus, chromaWith, chromaSample}
 use Rattle.alf_spec.specs.CrossComponent.{crossRows, crossTaps, crossSum, corrected, crossWith, crossSample}
@@ -99,7 +103,13 @@ pub record SmallPictures : Type 0 where
   pub flag-off : filteredAt (twoCtbs 1 0 (1 ∷ 0 ∷ [])) ≡ true ∷ false ∷ true ∷ false ∷ []
 
 pub small-pictures : SmallPictures
-unfolding allBelow everyFrom elem sumBelow sumBelowℤ tabulate painted clip3 distance rounded clipSample clippedChange tap tapSum filtered ctbSize subWidth subHeight planeOf lineRule bottomDistance sliceOf subpicOf tileColumnOf tileRowOf tileDisables sliceDisables subpicDisables stepCause columnSide rowSide cornerDisabled find lineClip virtualClip sideClip clip clipPosition columnClip rowClip paddedRow pastCorner paddedColumn read ctbParam sliceParam bankNumber fixedCoeff classWindow filtH filtV filtD0 filtD1 windowRows windowSum windowSums larger diagonal mainGradient otherGradient strength activity transposeIdx filtIdx classOfSums classOf blockClass lumaF lumaC tapOrder lumaRows lumaPlus lumaMinus lumaWith lumaSample chromaRows chromaPlus chromaMinus chromaWith chromaSample crossRows crossTaps crossSum corrected crossWith crossSample classAt classMap lumaOn isFiltered atIndex filteredPlane result
+unfolding allBelow everyFrom elem sumBelow sumBelowℤ tabulate painted clip3 distance rounded clipSample clippedChange tap tapSum filtered
+    ctbSize subWidth subHeight planeOf lineRule bottomDistance sliceOf subpicOf tileColumnOf tileRowOf tileDisables sliceDisables
+    subpicDisables stepCause columnSide rowSide cornerDisabled find lineClip virtualClip sideClip clip clipPosition columnClip rowClip
+    paddedRow pastCorner paddedColumn read ctbParam sliceParam bankNumber fixedCoeff classWindow filtH filtV filtD0 filtD1 windowRows
+    windowSum windowSums larger diagonal mainGradient otherGradient strength activity transposeIdx filtIdx classOfSums classOf blockClass
+    lumaF lumaC tapOrder lumaRows lumaPlus lumaMinus lumaWith lumaSample chromaRows chromaPlus chromaMinus chromaWith chromaSample
+    crossRows crossTaps crossSum corrected crossWith crossSample classAt classMap lumaOn isFiltered atIndex filteredPlane result
 small-pictures = record {
   class-map = refl;
   line-classes = refl;

@@ -46,7 +46,8 @@ module _ (t : ℕ) (h : t < 4) where
   unfolding isPermutation tapOrder
   each-below j hj =
       ltb-true (tapOrder t j) 12
-      (every-at 0 0 (λ k x. ltb x 12) row (both below once (both (eqb (length row) 12) _ row-permutes .1) .0) j (omega (arith, twelve-entries)))
+      (every-at 0 0 (λ k x. ltb x 12) row (both below once (both (eqb (length row) 12) _ row-permutes .1) .0) j
+      (omega (arith, twelve-entries)))
 
   pub each-once : (v : ℕ) → v < 12 → occurrences v row ≡ 1
   unfolding isPermutation

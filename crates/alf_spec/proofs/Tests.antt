@@ -91,12 +91,16 @@ every-at d k test (x ∷ xs) e zero h = rw add-zero (both (test k x) (everyFrom 
 every-at d k test (x ∷ xs) e (suc j) h =
     rw (add-suc, ← suc-add) (every-at d (suc k) test xs (both (test k x) (everyFrom (suc k) test xs) e .1) j (le-of-suc-le-suc h))
 
-pub at-every : {A : Type 0} (d : A) (k : ℕ) (test : ℕ → A → Bool) (xs : List A) → ((j : ℕ) → j < length xs → test (k + j) (getD xs j d) ≡ true)
+pub at-every : {A : Type 0} (d : A) (k : ℕ) (test : ℕ → A → Bool) (xs : List A)
+    → ((j : ℕ) → j < length xs → test (k + j) (getD xs j d) ≡ true)
     → everyFrom k test xs ≡ true
 unfolding everyFrom
 at-every d k test [] f = refl
 at-every d k test (x ∷ xs) f =
-    simp (rw add-zero at (f zero (zero-lt-suc (length xs))), at-every d (suc k) test xs (λ j h. rw (suc-add, ← add-suc) (f (suc j) (suc-le-suc h))))
+    simp (
+      rw add-zero at (f zero (zero-lt-suc (length xs))),
+      at-every d (suc k) test xs (λ j h. rw (suc-add, ← add-suc) (f (suc j) (suc-le-suc h))),
+    )
 
 -- what every entry passes, and the default, each read passes
 pub every-entry : {A : Type 0} (test : A → Bool) (d : A) → test d ≡ true → (j : ℕ) (xs : List A) → everyFrom j (λ _ x. test x) xs ≡ true

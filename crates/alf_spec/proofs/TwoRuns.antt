@@ -8,7 +8,8 @@ use lib.Dec.{eqb}
 use lib.ListN.{length, getD}
 use Rattle.alf_spec.specs.Lists.{elem}
 use Rattle.alf_spec.specs.Input.{Layout, Operation, classes, luma, chroma, crossComponent, given, Input}
-use Rattle.alf_spec.specs.Geometry.{subWidth, subHeight, planeOf, lumaPlane, chromaPlane, classPlane, planeLength, columnOf, rowOf, ctbAt, address}
+use Rattle.alf_spec.specs.Geometry.{subWidth, subHeight, planeOf, lumaPlane, chromaPlane, classPlane, planeLength, columnOf, rowOf}
+use Rattle.alf_spec.specs.Geometry.{ctbAt, address}
 use Rattle.alf_spec.specs.Parameters.{ctbParam}
 use Rattle.alf_spec.specs.Luma.{lumaSample}
 use Rattle.alf_spec.specs.Chroma.{chromaSample}
@@ -25,16 +26,16 @@ use Rattle.alf_spec.proofs.IsolatedRegions.Reads.{same-reads}
 use Rattle.alf_spec.proofs.IsolatedRegions.Samples.{same-class, atLayout, SameFilters, same-luma, same-chroma, same-cross}
 use Rattle.alf_spec.proofs.IsolatedRegions.Results.{index-inside, SameOutput, same-output}
 
--- Two runs of one operation, and a region. Quoted are demand 3 and, where it says so, the scope paper (01). 01: "Of the things that demand 3
--- wants alike, only those count that the operation is lent, its input planes at the samples inside".
+-- Two runs of one operation, and a region. Quoted are demand 3 and, where it says so, the scope paper (01). 01: "Of the things that demand
+-- 3 wants alike, only those count that the operation is lent, its input planes at the samples inside".
 pub record TwoRuns (op : Operation) (region : List ℕ) (i j : Input) : Type 0 where
   -- "two inputs accepted for it"; 01: "Accepted means that no numbered cause applies"
   pub firstAccepted : fault op i ≡ 0
   pub secondAccepted : fault op j ≡ 0
   -- "every region that is isolated in their common boundary tables"; 01: "no open step goes from a sample in it to one outside it"
   pub regionIsolated : isolated (i .layout) region ≡ true
-  -- "alike in sizes, CTB exponent, depth, chroma mark, boundary tables"; 01: "The boundary tables are virtual boundaries, tiles, slice map with
-  -- N, subpictures, and the switches"
+  -- "alike in sizes, CTB exponent, depth, chroma mark, boundary tables"; 01: "The boundary tables are virtual boundaries, tiles, slice map
+  -- with N, subpictures, and the switches"
   pub layout : i .layout ≡ j .layout
   -- "of slice parameters, bank and fixed tables in those that the operation is given"
   pub sliceParams : given op .filters ≡ true → i .sliceParams ≡ j .sliceParams
@@ -67,7 +68,13 @@ module _ (op : Operation) (region : List ℕ) (i j : Input) (runs : TwoRuns op r
   same-filters e columnRatio rowRatio line x y s =
       let t = luma-inside l columnRatio rowRatio line region x y s in
       subst (SameFilters i other) (luma-ctb l columnRatio rowRatio line x y)
-      (record { sliceParams = runs .sliceParams e; bank = runs .bank e; ctbParams = runs .ctbParams e _ _ t; listed = runs .listed e _ _ t })
+      (record {
+        sliceParams = runs .sliceParams e;
+        bank = runs .bank e;
+        ctbParams = runs .ctbParams e _ _ t;
+        listed =
+            runs .listed e _ _ t;
+      })
 
   luma-output : given op .filters ≡ true → given op .luma ≡ true → SameOutput l region (lumaPlane l) i other (λ a. a .luma)
   luma-output e f =

@@ -1,11 +1,12 @@
--- The operations' answers, and what stands for them: the number of paper 01's table, what the isolation test says, and the causes by number.
--- Assumes nothing.
+-- The operations' answers, and what stands for them: the number of paper 01's table, what the isolation test says, and the causes by
+-- number. Assumes nothing.
 use mathlib.Core.Bool.{Bool, true, false}
 use mathlib.Core.List.{List, [], _∷_}
 use mathlib.Core.Option.{Option, some, none}
 use Prim.Native.Nat.{ℕ, zero, suc}
 use Rattle.alf_spec.specs.declared.Fault.{Fault}
-use Rattle.alf_spec.specs.declared.Fault.the-variants.{PictureSize, CtbSize, BitDepth, ChromaFormat, Length, VirtualBoundary, Tile, Slice, Subpicture, Parameter, Filter, Sample, Address, Region, Position}
+use Rattle.alf_spec.specs.declared.Fault.the-variants.{PictureSize, CtbSize, BitDepth, ChromaFormat, Length, VirtualBoundary, Tile}
+use Rattle.alf_spec.specs.declared.Fault.the-variants.{Slice, Subpicture, Parameter, Filter, Sample, Address, Region, Position}
 use Rattle.alf_spec.specs.declared.Answer.{Answer}
 use Rattle.alf_spec.specs.declared.Answer.the-variants.{Accepted, Rejected}
 use Rattle.alf_spec.specs.declared.Isolation.{Isolation}

@@ -1,5 +1,5 @@
--- 02, card 1: the causes at the four sides of a luma sample. They are those of the clip positions by which every filter reads: `columnClip` and
--- `rowClip` of Padding are the positions. Assumes nothing.
+-- 02, card 1: the causes at the four sides of a luma sample. They are those of the clip positions by which every filter reads: `columnClip`
+-- and `rowClip` of Padding are the positions. Assumes nothing.
 use Prim.Native.Nat.{ℕ}
 use Rattle.alf_spec.specs.declared.ClipCause.{ClipCause}
 use Rattle.alf_spec.specs.declared.SideCauses.{SideCauses}

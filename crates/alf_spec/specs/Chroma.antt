@@ -52,8 +52,10 @@ module _ (i : Input) (component x y : ℕ) where
   chromaWith r =
       filtered (i .layout .picture .«bit_depth») (r .shift) (chromaRead (x, y))
       (tapSum 6 (chromaRead (x, y))
-      (chromaCoeff i (chromaAps i (ctbAt (chromaPlane (i .layout)) x y)) (chromaAlternative i (ctbAt (chromaPlane (i .layout)) x y) component))
-      (chromaClip i (chromaAps i (ctbAt (chromaPlane (i .layout)) x y)) (chromaAlternative i (ctbAt (chromaPlane (i .layout)) x y) component))
+      (chromaCoeff i (chromaAps i (ctbAt (chromaPlane (i .layout)) x y))
+      (chromaAlternative i (ctbAt (chromaPlane (i .layout)) x y) component))
+      (chromaClip i (chromaAps i (ctbAt (chromaPlane (i .layout)) x y))
+      (chromaAlternative i (ctbAt (chromaPlane (i .layout)) x y) component))
       (map chromaRead (chromaPlus x y r))
       (map chromaRead (chromaMinus x y r)))
 

@@ -42,8 +42,8 @@ module _ (window : List ℕ) where
   unfoldable pub filtD1 : ℕ → ℕ → ℕ
   filtD1 i j = distance (2 * at i j) (at (i + 1) (j - 1) + at (i - 1) (j + 1))
 
--- minY to maxY, as the first row of the window (row r stands at offset r − 3) and how many, and ac: the block at S − 8 uses rows −2 to 3, that
--- at S − 4 rows 0 to 5, with factor 3, when the line rule is on; others −2 to 5, with factor 2
+-- minY to maxY, as the first row of the window (row r stands at offset r − 3) and how many, and ac: the block at S − 8 uses rows −2 to 3,
+-- that at S − 4 rows 0 to 5, with factor 3, when the line rule is on; others −2 to 5, with factor 2
 unfoldable pub windowRows : Bool → ℕ → ℕ → WindowRows
 windowRows line s y =
     cond (line && eqb y (s - 8)) (record { first = 1; count = 6; factor = 3 })
@@ -52,7 +52,8 @@ windowRows line s y =
 
 -- (1476) to (1479): the sum over the columns −2 to 5 and those rows, where both offsets are even or both odd
 unfoldable pub windowSum : WindowRows → (ℕ → ℕ → ℕ) → ℕ
-windowSum r filt = sumBelow (r .count) (λ j. sumBelow 8 (λ i. cond (eqb ((i + 1) % 2) ((r .first + j) % 2)) (filt (i + 1) (r .first + j)) 0))
+windowSum r filt = sumBelow (r .count) (λ j. sumBelow 8
+    (λ i. cond (eqb ((i + 1) % 2) ((r .first + j) % 2)) (filt (i + 1) (r .first + j)) 0))
 
 -- sumV, sumH, sumD0, sumD1
 unfoldable pub windowSums : WindowRows → List ℕ → Sums

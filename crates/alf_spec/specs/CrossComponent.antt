@@ -62,7 +62,8 @@ module _ (i : Input) (component x y : ℕ) where
   crossWith r =
       corrected (i .layout .picture .«bit_depth») (getD (i .chroma) (indexOf (chromaPlane (i .layout)) x y) 0)
       (crossSum (crossRead (xL, yL))
-      (crossCoeff i (crossAps i (ctbAt (chromaPlane (i .layout)) x y) component) component (crossIndex i (ctbAt (chromaPlane (i .layout)) x y) component - 1))
+      (crossCoeff i (crossAps i (ctbAt (chromaPlane (i .layout)) x y) component) component
+      (crossIndex i (ctbAt (chromaPlane (i .layout)) x y) component - 1))
       (map crossRead (crossTaps xL yL r)))
 
   -- (1536): the filtered sample

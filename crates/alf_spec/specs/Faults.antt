@@ -85,7 +85,8 @@ apartAt s list k = leb (getD list k 0 + s) (getD list (k + 1) 0)
 
 -- up to 3
 unfoldable pub virtualListValid : ℕ → ℕ → List ℕ → Bool
-virtualListValid size s list = leb (length list) 3 && (every (virtualPositionValid size) list && allBelow (length list - 1) (apartAt s list))
+virtualListValid size s list = leb (length list) 3
+    && (every (virtualPositionValid size) list && allBelow (length list - 1) (apartAt s list))
 
 -- 6: columns and rows
 unfoldable pub virtualBoundariesValid : Layout → Bool
@@ -261,6 +262,7 @@ fault op i = layoutFault (i .layout) (componentValid op (i .layout .picture)) (l
 unfoldable pub isolationFault : Layout → List ℕ → ℕ
 isolationFault l region = layoutFault l true (regionLengthValid l region) (unless (regionValid region) 14 0)
 
--- that of naming the causes at a luma position: 15 is "judged last". The test is that of the room for them, where they are written to a list.
+-- that of naming the causes at a luma position: 15 is "judged last". The test is that of the room for them, where they are written to a
+-- list.
 unfoldable pub causesFault : Layout → Bool → ℕ → ℕ → ℕ
 causesFault l room x y = layoutFault l true room (unless (positionValid (l .picture) x y) 15 0)

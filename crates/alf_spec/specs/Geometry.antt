@@ -72,16 +72,29 @@ lineRows scaleHeight = 2 * scaleHeight
 -- the picture's axes, for a plane with these ratios to luma, and with the line so many luma rows above a CTB's bottom
 unfoldable pub planeOf : Layout → ℕ → ℕ → ℕ → Plane
 planeOf l columnRatio rowRatio line = record {
-  columns = record { size = l .picture .width; ctb = ctbSize (l .picture); virtualBoundaries = l .virtualColumns; line = 0; ratio = columnRatio };
-  rows = record { size = l .picture .height; ctb = ctbSize (l .picture); virtualBoundaries = l .virtualRows; line = line; ratio = rowRatio };
+  columns = record {
+    size = l .picture .width;
+    ctb = ctbSize (l .picture);
+    virtualBoundaries = l .virtualColumns;
+    line = 0;
+    ratio = columnRatio;
+  };
+  rows = record {
+    size = l .picture .height;
+    ctb = ctbSize (l .picture);
+    virtualBoundaries = l .virtualRows;
+    line = line;
+    ratio = rowRatio;
+  };
 }
 
--- the luma plane: ratio 1. For it, for classes and for what the cross-component filter reads scaleHeight is 2 (8.8.5.2, 8.8.5.3, 8.8.5.7), so that the
--- line lies 4 rows up.
+-- the luma plane: ratio 1. For it, for classes and for what the cross-component filter reads scaleHeight is 2 (8.8.5.2, 8.8.5.3, 8.8.5.7),
+-- so that the line lies 4 rows up.
 abbrev pub lumaPlane : Layout → Plane
 lumaPlane l = planeOf l 1 1 (lineRows 2)
 
--- 02, card 4: a chroma plane has its own ratio in each direction. For it scaleHeight is SubHeightC (8.8.5.4), so that the line lies 2 chroma rows up.
+-- 02, card 4: a chroma plane has its own ratio in each direction. For it scaleHeight is SubHeightC (8.8.5.4), so that the line lies 2
+-- chroma rows up.
 abbrev pub chromaPlane : Layout → Plane
 chromaPlane l = planeOf l (subWidth (l .picture)) (subHeight (l .picture)) (lineRows (subHeight (l .picture)))
 

@@ -39,8 +39,8 @@ pub data Operation : Type 0 where
   chroma : ℕ → Operation
   crossComponent : ℕ → Operation
 
--- what an operation is given beside the layout: the luma plane; its component's chroma plane; the filters' tables, which are slice parameters,
--- bank, CTB parameters and list; the fixed tables
+-- what an operation is given beside the layout: the luma plane; its component's chroma plane; the filters' tables, which are slice
+-- parameters, bank, CTB parameters and list; the fixed tables
 pub record Given : Type 0 where
   pub luma : Bool
   pub chroma : Bool

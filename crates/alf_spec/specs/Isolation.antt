@@ -7,7 +7,8 @@ use lib.ListN.{getD}
 use Rattle.alf_spec.specs.declared.Ctb.{Ctb}
 use Rattle.alf_spec.specs.Lists.{implies, allBelow, elem, tabulate}
 use Rattle.alf_spec.specs.Input.{Layout, Operation}
-use Rattle.alf_spec.specs.Geometry.{Side, before, after, sameSide, next, gap, hasNext, Axis, lumaPlane, blockPlane, lumaPosition, planeLength, indexOf, columnOf, rowOf, ctbAt}
+use Rattle.alf_spec.specs.Geometry.{Side, before, after, sameSide, next, gap, hasNext, Axis, lumaPlane, blockPlane, lumaPosition}
+use Rattle.alf_spec.specs.Geometry.{planeLength, indexOf, columnOf, rowOf, ctbAt}
 use Rattle.alf_spec.specs.Boundary.{sliceOf, subpicOf, tileColumnOf, tileRowOf, sliceDisables, columnDisabled, rowDisabled}
 use Rattle.alf_spec.specs.Process.{outputPlane}
 

@@ -9,7 +9,8 @@ use Rattle.alf_spec.specs.Geometry.{address}
 use Rattle.alf_spec.specs.Boundary.{sliceOf}
 
 module _ (i : Input) (c : Ctb) where
-  -- eight numbers a CTB: the flags of luma, Cb and Cr; the luma set; the alternatives of Cb and Cr; the cross-component indices of Cb and Cr
+  -- eight numbers a CTB: the flags of luma, Cb and Cr; the luma set; the alternatives of Cb and Cr; the cross-component indices of Cb and
+  -- Cr
   unfoldable pub ctbParam : ℕ → ℕ
   ctbParam n = getD (i .ctbParams) (8 * address (i .layout) c + n) 0
 

@@ -7,7 +7,8 @@ use Rattle.alf_spec.specs.declared.Ctb.{Ctb}
 use Rattle.alf_spec.specs.declared.Class.{Class}
 use Rattle.alf_spec.specs.Lists.{elem, tabulate, painted}
 use Rattle.alf_spec.specs.Input.{Layout, Operation, classes, luma, chroma, crossComponent, Input}
-use Rattle.alf_spec.specs.Geometry.{Plane, lumaPlane, chromaPlane, classPlane, lumaPosition, planeLength, columnOf, rowOf, ctbAt, address}
+use Rattle.alf_spec.specs.Geometry.{Plane, lumaPlane, chromaPlane, classPlane, lumaPosition, planeLength, columnOf, rowOf, ctbAt}
+use Rattle.alf_spec.specs.Geometry.{address}
 use Rattle.alf_spec.specs.Parameters.{lumaFlag, chromaFlag, crossIndex}
 use Rattle.alf_spec.specs.Classes.{blockClass}
 use Rattle.alf_spec.specs.Luma.{lumaSample}
@@ -22,7 +23,8 @@ classNumber c = c .filter + 32 * c .transpose
 unfoldable pub classAt : Layout → List ℕ → ℕ → ℕ
 classAt l plane k =
     classNumber
-    (blockClass l plane (lumaPosition (classPlane l .columns) (columnOf (classPlane l) k)) (lumaPosition (classPlane l .rows) (rowOf (classPlane l) k)))
+    (blockClass l plane (lumaPosition (classPlane l .columns) (columnOf (classPlane l) k))
+    (lumaPosition (classPlane l .rows) (rowOf (classPlane l) k)))
 
 -- 01: for all CTBs
 unfoldable pub classMap : Layout → List ℕ → List ℕ
@@ -42,7 +44,8 @@ crossOn i component c = not (eqb (crossIndex i c component) 0)
 
 -- the sample at index k of a plane lies in a listed CTB whose flag or index is on
 unfoldable pub isFiltered : Input → Plane → (Ctb → Bool) → ℕ → Bool
-isFiltered i g on k = elem (address (i .layout) (ctbAt g (columnOf g k) (rowOf g k))) (i .ctbList) && on (ctbAt g (columnOf g k) (rowOf g k))
+isFiltered i g on k = elem (address (i .layout) (ctbAt g (columnOf g k) (rowOf g k))) (i .ctbList)
+    && on (ctbAt g (columnOf g k) (rowOf g k))
 
 -- what a function of column and row gives at index k
 unfoldable pub atIndex : Plane → (ℕ → ℕ → ℕ) → ℕ → ℕ

@@ -55,8 +55,8 @@ pub enum Isolation {
     Rejected(Fault),
 }
 
-// Why filtering stops at a side of a luma sample, or of a CTB (02, card 1: cause), in the order of the numbers 0 to 5. A CTB's side is open, or has one of
-// the last three.
+// Why filtering stops at a side of a luma sample, or of a CTB (02, card 1: cause), in the order of the numbers 0 to 5. A CTB's side is
+// open, or has one of the last three.
 pub enum ClipCause {
     Open,
     // 01: the line
@@ -100,7 +100,8 @@ pub struct Ctb {
     pub row: u32,
 }
 
-// A CTB's sides, by why filtering across them is disabled (01: closed), and its corners: true where it is. The corners are judged by slices alone.
+// A CTB's sides, by why filtering across them is disabled (01: closed), and its corners: true where it is. The corners are judged by slices
+// alone.
 pub struct Sides {
     pub left: ClipCause,
     pub right: ClipCause,

@@ -1,5 +1,5 @@
--- The taps of a sample by numbers that are spread over the columns: how large their sum can be, and that equal numbers give equal sums. Assumes
--- nothing.
+-- The taps of a sample by numbers that are spread over the columns: how large their sum can be, and that equal numbers give equal sums.
+-- Assumes nothing.
 use mathlib.Core.Path.{_≡_}
 use mathlib.Core.List.{List}
 use Prim.Native.Nat.{ℕ, _*_, _^_, _≤_, _<_}

@@ -1,5 +1,5 @@
--- A filter's numbers spread over the columns of a row of samples: a row of 128 for each tap, first the coefficients of 12 taps, then their clips.
--- Assumes nothing.
+-- A filter's numbers spread over the columns of a row of samples: a row of 128 for each tap, first the coefficients of 12 taps, then their
+-- clips. Assumes nothing.
 use Prim.Native.Nat.{ℕ, _+_, _*_, _≤_, _<_}
 use mathlib.Core.List.{List}
 use lib.IntN.{ℤ, pos}

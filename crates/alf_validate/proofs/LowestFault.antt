@@ -15,7 +15,8 @@ use Rattle.alf_spec.specs.Lists.{every}
 use Rattle.alf_spec.specs.Input.{Layout, Input, inputOf}
 use Rattle.alf_spec.specs.Geometry.{planeOf, ctbTotal}
 use Rattle.alf_spec.specs.Answers.{number}
-use Rattle.alf_spec.specs.Faults.{bitDepthValid, layoutLengthsValid, filterLengthsValid, cornersValid, sliceCorner, slicesValid, layoutFault}
+use Rattle.alf_spec.specs.Faults.{bitDepthValid, layoutLengthsValid, filterLengthsValid, cornersValid, sliceCorner, slicesValid}
+use Rattle.alf_spec.specs.Faults.{layoutFault}
 use Rattle.alf_spec.proofs.Tests.{and-same, both}
 use Rattle.alf_spec.proofs.Accepted.{Accepted, table-lengths, chain}
 use Rattle.alf_spec.proofs.Faults.{layout-leaves, layout-goes}
@@ -42,7 +43,8 @@ tables-fit i ok lengths =
     record {
       depth = ok .bitDepth;
       parameters = record {
-        slices = both (every (λ n. ltb n (l .picture .«slice_count»)) (l .sliceMap)) (cornersValid sliceCorner l (l .sliceMap)) (ok .slices) .0;
+        slices = both (every (λ n. ltb n (l .picture .«slice_count»)) (l .sliceMap)) (cornersValid sliceCorner l (l .sliceMap))
+            (ok .slices) .0;
         sliceLength = eqb-true (length (i .sliceParams)) (11 * l .picture .«slice_count») (slices .0);
         ctbLength = params ∙ ap (λ (n : ℕ). 8 * n) (sym full);
       };
@@ -68,7 +70,8 @@ module _ (l : Layout) (component own r : Bool) (sliceParams : List ℕ) (bank : 
   unfolding filterLengthsValid planeOf
   filter-fits told =
       let p = passed l component (r && own) a judged told in
-      tables-fit (inputOf l [] [] sliceParams bank ctbParams [] [] [] 0) (p .0) (sym (fit (table-lengths l (p .0 .lengths) .sliceMap)) ∙ both r own (p .2) .0)
+      tables-fit (inputOf l [] [] sliceParams bank ctbParams [] [] [] 0) (p .0) (sym (fit (table-lengths l (p .0 .lengths) .sliceMap))
+      ∙ both r own (p .2) .0)
 
   module _ (lumaSamples chromaSamples ctbList : List ℕ) (fixedFilters : List ℤ) (fixedMap : List ℕ) (n : ℕ) where
     abbrev i : Input

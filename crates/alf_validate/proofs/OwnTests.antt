@@ -9,7 +9,8 @@ use lib.ListN.{length}
 use Rattle.alf_spec.specs.Lists.{everyFrom}
 use Rattle.alf_spec.specs.Input.{Layout, classes, luma, chroma, crossComponent, classesInput, lumaInput, chromaInput, crossInput}
 use Rattle.alf_spec.specs.Geometry.{lumaPlane, chromaPlane, classPlane, planeLength}
-use Rattle.alf_spec.specs.Faults.{componentValid, fixedLengthsValid, lengthsValid, fixedValid, samplesValid, unless, layoutFault, tablesFault, fault}
+use Rattle.alf_spec.specs.Faults.{componentValid, fixedLengthsValid, lengthsValid, fixedValid, samplesValid, unless, layoutFault}
+use Rattle.alf_spec.specs.Faults.{tablesFault, fault}
 use Rattle.alf_spec.proofs.Faults.{stops, goes}
 use Rattle.alf_validate_tables.specs.Tables.{filterTablesFault}
 use Rattle.alf_validate.specs.Filters.{filterFault}
@@ -31,7 +32,8 @@ module _ (l : Layout) (plane : List ℕ) (n : ℕ) {r : Bool} (e : r ≡ samples
   unfolding tablesFault unless
   classes-pass q = goes 12 0 (e ∙ sym (and-true _)) q refl
 
--- a filter, whose code has the answers to its own tests and the number m that comes of them: what the filter is not given is empty, and passes
+-- a filter, whose code has the answers to its own tests and the number m that comes of them: what the filter is not given is empty, and
+-- passes
 module _ (l : Layout) (sliceParams : List ℕ) (bank : List ℤ) (ctbParams ctbList : List ℕ) (n : ℕ) where
   pub luma-fault : (fixedFilters : List ℤ) (fixedMap plane : List ℕ) {given output : Bool} {m : ℕ}
       → given ≡ eqb (length plane) (planeLength (lumaPlane l)) → output ≡ eqb n (planeLength (lumaPlane l))
@@ -40,7 +42,8 @@ module _ (l : Layout) (sliceParams : List ℕ) (bank : List ℤ) (ctbParams ctbL
   unfolding filterFault fault componentValid lengthsValid filterTablesFault tablesFault samplesValid everyFrom
   luma-fault fixedFilters fixedMap plane e f q = q ∙ rw (e, f)
 
-  pub chroma-fault : (component : ℕ) (plane : List ℕ) {valid given output : Bool} {m : ℕ} → valid ≡ componentValid (chroma component) (l .picture)
+  pub chroma-fault : (component : ℕ) (plane : List ℕ) {valid given output : Bool} {m : ℕ}
+      → valid ≡ componentValid (chroma component) (l .picture)
       → given ≡ eqb (length plane) (planeLength (chromaPlane l)) → output ≡ eqb n (planeLength (chromaPlane l))
       → let i = chromaInput l sliceParams bank ctbParams ctbList plane n in
       m ≡ filterFault i valid (given && output) → m ≡ fault (chroma component) i

@@ -2,7 +2,8 @@
 // lengths beside causes 4 and 5.
 ghost use mathlib.Core.Path.{_≡_};
 ghost use Prim.Native.Nat.{ℕ};
-ghost use Rattle.alf_spec.specs.Input.{layoutOf, classes, luma as ofLuma, chroma as ofChroma, crossComponent, inputOf, classesInput, lumaInput, chromaInput, crossInput};
+ghost use Rattle.alf_spec.specs.Input.{layoutOf, classes, luma as ofLuma, chroma as ofChroma, crossComponent, inputOf, classesInput};
+ghost use Rattle.alf_spec.specs.Input.{lumaInput, chromaInput, crossInput};
 ghost use Rattle.alf_spec.specs.Answers.{number};
 ghost use Rattle.alf_spec.specs.Faults.{componentValid, fault};
 ghost use Rattle.alf_validate.specs.Filters.{filterFault};

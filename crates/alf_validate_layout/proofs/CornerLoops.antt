@@ -60,9 +60,14 @@ module _ (rule : ℕ → ℕ → ℕ → ℕ → Bool) (map : List ℕ) (columns
         corner-breaks l {a} e q = not-true a q ∙ scan-fails _ _ y (omega arith) (this-row ∙ sym (pair-stop (k .cornersPassed) l e q))
 
 -- the corner passed: its answer is kept, and the loop goes on
-pub next-corner : (rule : ℕ → ℕ → ℕ → ℕ → Bool) (map : List ℕ) (columns from : ℕ) {good : Bool} {x : ℕ} → AtCorner rule map columns from good x
+pub next-corner : (rule : ℕ → ℕ → ℕ → ℕ → Bool) (map : List ℕ) (columns from : ℕ) {good : Bool} {x : ℕ}
+    → AtCorner rule map columns from good x
     → x + 1 < columns → {a : Bool} → a ≡ cornerAt rule map columns from x → not a ≡ false → AtCorner rule map columns from a (x + 1)
-next-corner rule map columns from k l {a} e q = record { cornersPassed = pair-step (k .cornersPassed) l e q; room = k .room; allGood = not-false a q }
+next-corner rule map columns from k l {a} e q = record {
+  cornersPassed = pair-step (k .cornersPassed) l e q;
+  room = k .room;
+  allGood = not-false a q;
+}
 
 -- what a search tries
 pub ruleset corners = (first-row, rows-done, first-corner, next-row, corner-breaks, next-corner)

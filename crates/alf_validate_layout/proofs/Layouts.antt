@@ -11,7 +11,8 @@ use Rattle.alf_spec.specs.declared.Picture.{Picture}
 use Rattle.alf_spec.specs.declared.Grid.{Grid}
 use Rattle.alf_spec.specs.Lists.{within, allBelow, every}
 use Rattle.alf_spec.specs.Input.{Layout, layoutOf}
-use Rattle.alf_spec.specs.Faults.{layoutLengthsValid, virtualListValid, virtualBoundariesValid, sliceCorner, subpicCorner, cornersInRow, cornersValid, slicesValid, subpicturesValid}
+use Rattle.alf_spec.specs.Faults.{layoutLengthsValid, virtualListValid, virtualBoundariesValid, sliceCorner, subpicCorner, cornersInRow}
+use Rattle.alf_spec.specs.Faults.{cornersValid, slicesValid, subpicturesValid}
 use Rattle.alf_spec.proofs.Scans.{every-up-to}
 use Rattle.alf_spec.proofs.Tests.{both}
 use Rattle.alf_spec.proofs.Accepted.{table-lengths}
@@ -27,7 +28,8 @@ module _ (l : Layout) (p : Picture) (g : Grid) (h : GridOf p g) (e : l .picture 
   grid-of-layout : GridOf (l .picture) g
   grid-of-layout = rw e h
 
-  corners-valid : (rule : ℕ → ℕ → ℕ → ℕ → Bool) (map : List ℕ) → allBelow (g .rows - 1) (cornersInRow rule map (g .columns)) ≡ cornersValid rule l map
+  corners-valid : (rule : ℕ → ℕ → ℕ → ℕ → Bool) (map : List ℕ) → allBelow (g .rows - 1) (cornersInRow rule map (g .columns))
+      ≡ cornersValid rule l map
   unfolding cornersValid
   corners-valid rule map = rw (grid-columns l g grid-of-layout, grid-rows l g grid-of-layout)
 
@@ -44,7 +46,8 @@ module _ (l : Layout) (p : Picture) (g : Grid) (h : GridOf p g) (e : l .picture 
 
   -- the code has the answers of the two lists
   pub virtual-valid : (columns rows : List ℕ) → l .virtualColumns ≡ columns → l .virtualRows ≡ rows → {a b : Bool}
-      → a ≡ virtualListValid (p .width) (g .ctb) columns → b ≡ virtualListValid (p .height) (g .ctb) rows → (a && b) ≡ virtualBoundariesValid l
+      → a ≡ virtualListValid (p .width) (g .ctb) columns → b ≡ virtualListValid (p .height) (g .ctb) rows
+      → (a && b) ≡ virtualBoundariesValid l
   unfolding virtualBoundariesValid
   virtual-valid columns rows u v x y = rw (x, y, h .ctb, ← e, u, v)
 
@@ -61,7 +64,8 @@ module _ (l : Layout) (p : Picture) (g : Grid) (h : GridOf p g) (e : l .picture 
   unfolding subpicturesValid
   subpictures-valid map across u v x y z = rw (x, y, z, corners-valid subpicCorner map, every-up-to 1 across, u, v)
 
--- where cause 5 does not apply, each map has a number for each CTB. The code has the answer a of the layout's lengths, and v of the other lengths.
+-- where cause 5 does not apply, each map has a number for each CTB. The code has the answer a of the layout's lengths, and v of the other
+-- lengths.
 pub map-lengths : {p : Picture} {g : Grid} → GridOf p g → (columns rows slices subpics across : List ℕ) (a v : Bool)
     → ((l : Layout) → l .picture ≡ p → l .tileColumns ≡ columns → l .tileRows ≡ rows → l .sliceMap ≡ slices → l .subpicMap ≡ subpics
     → l .subpicAcross ≡ across → a ≡ layoutLengthsValid l)

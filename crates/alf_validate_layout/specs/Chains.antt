@@ -6,7 +6,8 @@ use Rattle.alf_spec.specs.Faults.{layoutLengthsValid, virtualBoundariesValid, t
 
 -- 6 to 9
 unfoldable pub boundariesFault : Layout → ℕ
-boundariesFault l = unless (virtualBoundariesValid l) 6 (unless (tilesValid l) 7 (unless (slicesValid l) 8 (unless (subpicturesValid l) 9 0)))
+boundariesFault l = unless (virtualBoundariesValid l) 6
+    (unless (tilesValid l) 7 (unless (slicesValid l) 8 (unless (subpicturesValid l) 9 0)))
 
 -- 5 to 9: 5 has a test of the operation's own
 unfoldable pub layoutTablesFault : Layout → Bool → ℕ

@@ -6,7 +6,8 @@ ghost use Rattle.alf_math.specs.Grids.{GridOf};
 use alf_spec::Grid;
 use alf_spec::Picture;
 
-// Whether there are 1 to 256 slices, a tile number for each CTB column and row, a slice and a subpicture number for each CTB, and 64 switches.
+// Whether there are 1 to 256 slices, a tile number for each CTB column and row, a slice and a subpicture number for each CTB, and 64
+// switches.
 pub fn layout_lengths_valid(
     picture: Picture,
     grid: Grid,
@@ -17,7 +18,8 @@ pub fn layout_lengths_valid(
     subpic_across: &[u8],
 ) -> bool
     requires { ⌜ GridOf picture grid ⌝ }
-    ensures { λ r. ⌜ ((l : Layout) → l .picture ≡ picture → l .tileColumns ≡ now («tile_columns» .entry) → l .tileRows ≡ now («tile_rows» .entry)
+    ensures { λ r. ⌜ ((l : Layout) → l .picture ≡ picture → l .tileColumns ≡ now («tile_columns» .entry)
+        → l .tileRows ≡ now («tile_rows» .entry)
         → l .sliceMap ≡ now («slice_map» .entry) → l .subpicMap ≡ now («subpic_map» .entry) → l .subpicAcross ≡ now («subpic_across» .entry)
         → r ≡ layoutLengthsValid l) ⌝ }
 {

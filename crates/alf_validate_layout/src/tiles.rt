@@ -48,7 +48,8 @@ fn tile_list_valid(list: &[u8]) -> bool
 
 // Cause 7: the tile columns of the CTB columns and the tile rows of the CTB rows.
 pub fn tiles_valid(tile_columns: &[u8], tile_rows: &[u8]) -> bool
-    ensures { λ r. ⌜ ((l : Layout) → l .tileColumns ≡ now («tile_columns» .entry) → l .tileRows ≡ now («tile_rows» .entry) → r ≡ tilesValid l) ⌝ }
+    ensures { λ r. ⌜ ((l : Layout) → l .tileColumns ≡ now («tile_columns» .entry) → l .tileRows ≡ now («tile_rows» .entry)
+        → r ≡ tilesValid l) ⌝ }
 {
     tile_list_valid(tile_columns) & tile_list_valid(tile_rows)
 }

@@ -7,17 +7,20 @@ use Rattle.alf_spec.specs.Input.{Layout, Input, inputOf}
 use Rattle.alf_spec.specs.Geometry.{planeOf, ctbTotal}
 use Rattle.alf_spec.specs.Boundary.{sliceOf}
 use Rattle.alf_spec.specs.Parameters.{ctbParam, sliceParam}
-use Rattle.alf_spec.specs.Faults.{sliceParamsValid, ctbRangesValid, ctbChromaZero, ctbParamsValidAt, parametersValid, bankValid, fixedValid, addressesValid}
+use Rattle.alf_spec.specs.Faults.{sliceParamsValid, ctbRangesValid, ctbChromaZero, ctbParamsValidAt, parametersValid, bankValid, fixedValid}
+use Rattle.alf_spec.specs.Faults.{addressesValid}
 use Rattle.alf_validate_tables.specs.Tables.{parametersInput, tablesInput, filterTablesFault}
 
 module _ (i : Input) where
   -- cause 10 looks at the parameters alone
-  parameters-same : parametersValid (parametersInput (i .layout .picture) (i .layout .sliceMap) (i .sliceParams) (i .ctbParams)) ≡ parametersValid i
+  parameters-same : parametersValid (parametersInput (i .layout .picture) (i .layout .sliceMap) (i .sliceParams) (i .ctbParams))
+      ≡ parametersValid i
   unfolding parametersValid sliceParamsValid ctbParamsValidAt ctbRangesValid ctbChromaZero ctbParam sliceParam sliceOf planeOf
   parameters-same = refl
 
   pub parameters-of : {r : Bool}
-      → r ≡ parametersValid (parametersInput (i .layout .picture) (i .layout .sliceMap) (i .sliceParams) (i .ctbParams)) → r ≡ parametersValid i
+      → r ≡ parametersValid (parametersInput (i .layout .picture) (i .layout .sliceMap) (i .sliceParams) (i .ctbParams))
+      → r ≡ parametersValid i
   parameters-of e = e ∙ parameters-same
 
   -- where the slice map has an entry for each CTB, its length serves for the number of CTBs
@@ -30,7 +33,8 @@ module _ (i : Input) where
 -- the parts that the causes look at
 abbrev pub tablesOf : Input → Input
 tablesOf i =
-    tablesInput (i .layout .picture) (i .layout .sliceMap) (i .sliceParams) (i .bank) (i .ctbParams) (i .ctbList) (i .fixedFilters) (i .fixedMap)
+    tablesInput (i .layout .picture) (i .layout .sliceMap) (i .sliceParams) (i .bank) (i .ctbParams) (i .ctbList)
+    (i .fixedFilters) (i .fixedMap)
     (i .luma) (i .chroma)
 
 pub tables-of : (i : Input) → filterTablesFault (tablesOf i) ≡ filterTablesFault i

@@ -24,7 +24,8 @@ pub fn filter_tables_fault(
     chroma: &[u16],
 ) -> Answer
     requires { ⌜ TablesFit picture (now «slice_map») (now «slice_params») (now «ctb_params») ⌝ }
-    ensures { λ r. ⌜ number r ≡ filterTablesFault (tablesInput picture (now («slice_map» .entry)) (now («slice_params» .entry)) (now (bank .entry))
+    ensures { λ r. ⌜ number r ≡ filterTablesFault (tablesInput picture (now («slice_map» .entry)) (now («slice_params» .entry))
+        (now (bank .entry))
         (now («ctb_params» .entry)) (now («ctb_list» .entry)) (now («fixed_filters» .entry)) (now («fixed_map» .entry)) (now (luma .entry))
         (now (chroma .entry))) ⌝ }
 {

@@ -52,7 +52,8 @@ fn ranges_valid(
 // Whether its chroma flags, alternatives and cross-component indices are all 0.
 fn chroma_zero(picture: Picture, ctb_params: &[u8], k: usize) -> bool
     requires { ⌜ 8 * k + 8 ≤ length (now «ctb_params») ⌝ }
-    ensures { λ r. ⌜ ((sliceMap sliceParams : List ℕ) → r ≡ ctbChromaZero (parametersInput picture sliceMap sliceParams (now («ctb_params» .entry)))
+    ensures { λ r. ⌜ ((sliceMap sliceParams : List ℕ)
+        → r ≡ ctbChromaZero (parametersInput picture sliceMap sliceParams (now («ctb_params» .entry)))
         (ctbOf (mapLayout picture sliceMap) k)) ⌝ }
 {
     let at = 8 * k;

@@ -1,5 +1,5 @@
-// The direction test under C names, for the host's tests alone, which hold it against a wide multiplication (host/compare/tests/direction.rs).
-// The C interface of the library is alf_c.
+// The direction test under C names, for the host's tests alone, which hold it against a wide multiplication
+// (host/compare/tests/direction.rs). The C interface of the library is alf_c.
 ghost use mathlib.Core.Path.{_≡_};
 ghost use mathlib.Core.Bool.{cond};
 ghost use Prim.Native.Nat.{_*_};

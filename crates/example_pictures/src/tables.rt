@@ -15,7 +15,8 @@ fn clip(k: usize) -> i16 {
     CLIPS[k % 5]
 }
 
-// An APS has 752 numbers: 25 luma filters of 12 coefficients and 12 clips, 8 chroma alternatives of 6 and 6, 8 cross-component filters of 7.
+// An APS has 752 numbers: 25 luma filters of 12 coefficients and 12 clips, 8 chroma alternatives of 6 and 6, 8 cross-component filters of
+// 7.
 fn is_clip(n: usize) -> bool {
     if n < 600 {
         n % 24 >= 12

@@ -1,5 +1,5 @@
-// Every operation on a picture, and what it leaves, for the example programs. The layout's tables and the filters' are handed on as slices: an array that is
-// lent anew to each call costs the check more.
+// Every operation on a picture, and what it leaves, for the example programs. The layout's tables and the filters' are handed on as slices:
+// an array that is lent anew to each call costs the check more.
 use alf::isolation_number;
 use alf::number;
 use alf_print::print;

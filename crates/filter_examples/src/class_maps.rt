@@ -4,7 +4,8 @@ use example_pictures::textures::draw_textures;
 use example_pictures::textures::textured_picture;
 use example_runs::show_classes;
 
-// One tile, slice and subpicture, of two by two CTBs: the map with no virtual column, with the first and with the second, where it is left as it was.
+// One tile, slice and subpicture, of two by two CTBs: the map with no virtual column, with the first and with the second, where it is left
+// as it was.
 fn show_maps(
     picture: Picture,
     first: &[u16],

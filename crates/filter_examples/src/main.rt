@@ -1,5 +1,5 @@
-// Runs every operation on a built-in picture and prints the planes before and after, then an input that is rejected; then the class maps of another
-// picture.
+// Runs every operation on a built-in picture and prints the planes before and after, then an input that is rejected; then the class maps of
+// another picture.
 mod class_maps;
 mod filtered;
 

@@ -1,4 +1,5 @@
-// The causes at the sides of a few luma samples: two CTBs of 32 side by side, in two slices, with the slice switch off and a virtual column at 16.
+// The causes at the sides of a few luma samples: two CTBs of 32 side by side, in two slices, with the slice switch off and a virtual column
+// at 16.
 use crate::show_fault;
 use alf::clip_causes;
 use alf_print::print;
@@ -64,7 +65,8 @@ fn show_at(x: u32, y: u32) {
     }
 }
 
-// At the picture's rim; 5 rows above the line-buffer boundary, and 4; below it; beside the virtual column; on both sides of the slices' border; outside.
+// At the picture's rim; 5 rows above the line-buffer boundary, and 4; below it; beside the virtual column; on both sides of the slices'
+// border; outside.
 pub fn show_causes() {
     show_at(0, 0);
     show_at(8, 23);

@@ -1,4 +1,5 @@
-// Runs paper 01's examples of judging and of the isolation test, an input for each number of its table, and the causes at the sides of a few samples.
+// Runs paper 01's examples of judging and of the isolation test, an input for each number of its table, and the causes at the sides of a
+// few samples.
 
 mod causes;
 mod damaged;
@@ -65,7 +66,8 @@ fn show_width(width: u32, numbers: &[u8], region: &[u8]) {
     print(b"\n");
 }
 
-// Two subpictures side by side in one tile and slice, no virtual boundary, left switch off, right on. A region is four rows of eight blocks.
+// Two subpictures side by side in one tile and slice, no virtual boundary, left switch off, right on. A region is four rows of eight
+// blocks.
 fn show_half(region: &[u8]) {
     let virtual_columns: [u16; 0] = [];
     let virtual_rows: [u16; 0] = [];

@@ -14,13 +14,20 @@ use Rattle.alf_spec.specs.Lists.{implies, allBelow, everyFrom, elem, sumBelow, 
 use Rattle.alf_spec.specs.Arithmetic.{clip3, distance, rounded, clipSample, clippedChange, tap, tapSum, filtered}
 use Rattle.alf_spec.specs.Input.{Layout, luma, Input}
 use Rattle.alf_spec.specs.Geometry.{ctbSize, planeOf, lumaPlane, indexOf, ctbAt, address, lineRule, bottomDistance}
-use Rattle.alf_spec.specs.Boundary.{sliceOf, subpicOf, tileColumnOf, tileRowOf, tileDisables, sliceDisables, subpicDisables, stepCause, columnSide, rowSide, cornerDisabled, find, lineClip, virtualClip, sideClip, clip, clipPosition}
+use Rattle.alf_spec.specs.Boundary.{sliceOf, subpicOf, tileColumnOf, tileRowOf, tileDisables, sliceDisables, subpicDisables, stepCause}
+use Rattle.alf_spec.specs.Boundary.{columnSide, rowSide, cornerDisabled, find, lineClip, virtualClip, sideClip, clip, clipPosition}
 use Rattle.alf_spec.specs.Padding.{columnClip, rowClip, paddedRow, pastCorner, paddedColumn, read}
 use Rattle.alf_spec.specs.Parameters.{ctbParam, sliceParam, bankNumber, fixedCoeff}
-use Rattle.alf_spec.specs.Classes.{classWindow, filtH, filtV, filtD0, filtD1, windowRows, windowSum, windowSums, larger, diagonal, mainGradient, otherGradient, strength, activity, transposeIdx, filtIdx, classOfSums, classOf, blockClass}
+use Rattle.alf_spec.specs.Classes.{classWindow, filtH, filtV, filtD0, filtD1, windowRows, windowSum, windowSums, larger, diagonal}
+use Rattle.alf_spec.specs.Classes.{mainGradient, otherGradient, strength, activity, transposeIdx, filtIdx, classOfSums, classOf, blockClass}
 use Rattle.alf_spec.specs.Luma.{lumaF, lumaC, tapOrder, lumaRows, lumaPlus, lumaMinus, lumaWith, lumaSample}
 use Rattle.alf_spec.specs.Process.{lumaOn, isFiltered, atIndex, filteredPlane, result}
-use Rattle.alf_spec.specs.Faults.{pictureSizeValid, ctbSizeValid, bitDepthValid, chromaFormatValid, componentValid, layoutLengthsValid, filterLengthsValid, fixedLengthsValid, lengthsValid, apartAt, virtualListValid, virtualBoundariesValid, followsAt, tileListValid, tilesValid, cornerAt, cornersInRow, cornersValid, slicesValid, subpicturesValid, sliceParamsValid, ctbRangesValid, ctbChromaZero, ctbParamsValidAt, parametersValid, coeffValid, clipValid, isClip, bankNumberValid, bankValid, fixedValid, samplesValid, addressesValid, unless, layoutFault, tablesFault, fault}
+use Rattle.alf_spec.specs.Faults.{pictureSizeValid, ctbSizeValid, bitDepthValid, chromaFormatValid, componentValid, layoutLengthsValid}
+use Rattle.alf_spec.specs.Faults.{filterLengthsValid, fixedLengthsValid, lengthsValid, apartAt, virtualListValid, virtualBoundariesValid}
+use Rattle.alf_spec.specs.Faults.{followsAt, tileListValid, tilesValid, cornerAt, cornersInRow, cornersValid, slicesValid, subpicturesValid}
+use Rattle.alf_spec.specs.Faults.{sliceParamsValid, ctbRangesValid, ctbChromaZero, ctbParamsValidAt, parametersValid, coeffValid, clipValid}
+use Rattle.alf_spec.specs.Faults.{isClip, bankNumberValid, bankValid, fixedValid, samplesValid, addressesValid, unless, layoutFault}
+use Rattle.alf_spec.specs.Faults.{tablesFault, fault}
 use Rattle.alf_spec.specs.Isolation.{inside, regionOf, subpicRegion, outputInside}
 use Rattle.alf_spec.proofs.Tests.{implied, all-at}
 use Rattle.alf_spec.proofs.Examples.{repeated}
@@ -69,11 +76,16 @@ abbrev second : Input
 second = after twoSubpictures
 
 accepts : (fault luma first ≡ 0) × (fault luma second ≡ 0)
-unfolding allBelow everyFrom ctbSize planeOf sliceOf ctbParam sliceParam pictureSizeValid ctbSizeValid bitDepthValid chromaFormatValid componentValid layoutLengthsValid filterLengthsValid fixedLengthsValid lengthsValid apartAt virtualListValid virtualBoundariesValid followsAt tileListValid tilesValid cornerAt cornersInRow cornersValid slicesValid subpicturesValid sliceParamsValid ctbRangesValid ctbChromaZero ctbParamsValidAt parametersValid coeffValid clipValid isClip bankNumberValid bankValid fixedValid samplesValid addressesValid unless layoutFault tablesFault fault
+unfolding allBelow everyFrom ctbSize planeOf sliceOf ctbParam sliceParam pictureSizeValid ctbSizeValid bitDepthValid chromaFormatValid
+    componentValid layoutLengthsValid filterLengthsValid fixedLengthsValid lengthsValid apartAt virtualListValid virtualBoundariesValid
+    followsAt tileListValid tilesValid cornerAt cornersInRow cornersValid slicesValid subpicturesValid sliceParamsValid ctbRangesValid
+    ctbChromaZero ctbParamsValidAt parametersValid coeffValid clipValid isClip bankNumberValid bankValid fixedValid samplesValid
+    addressesValid unless layoutFault tablesFault fault
 accepts = (refl, refl)
 
 -- what a computed test of every sample inside says of one
-module _ (test : ℕ → ℕ → Bool) (holds : allBelow 8 (λ y. allBelow 64 (λ x. implies (inside twoSubpictures region x y) (test x y))) ≡ true) where
+module _ (test : ℕ → ℕ → Bool) (holds : allBelow 8
+    (λ y. allBelow 64 (λ x. implies (inside twoSubpictures region x y) (test x y))) ≡ true) where
   at : (x y : ℕ) → Inside twoSubpictures region (lumaPlane twoSubpictures) x y → test x y ≡ true
   unfolding planeOf
   at x y s =
@@ -90,7 +102,8 @@ module _ (x y : ℕ) (s : Inside twoSubpictures region (lumaPlane twoSubpictures
   unfolding allBelow tabulate ctbSize planeOf subpicOf inside regionOf subpicRegion
   left = eqb-true _ 0 (at (λ x y. eqb (address twoSubpictures (ctbAt (lumaPlane twoSubpictures) x y)) 0) refl x y s)
 
-  same-param : (n : ℕ) → n < 8 → ctbParam first (ctbAt (lumaPlane twoSubpictures) x y) n ≡ ctbParam second (ctbAt (lumaPlane twoSubpictures) x y) n
+  same-param : (n : ℕ) → n < 8 → ctbParam first (ctbAt (lumaPlane twoSubpictures) x y) n ≡ ctbParam second
+      (ctbAt (lumaPlane twoSubpictures) x y) n
   unfolding ctbParam allBelow
   same-param n h =
       rw left (eqb-true _ _ (all-at 8 (λ n. eqb (getD (first .ctbParams) (8 * 0 + n) 0) (getD (second .ctbParams) (8 * 0 + n) 0)) refl n h))
@@ -126,7 +139,12 @@ pub record RewrittenOutside : Type 0 where
   pub differ-if-open : getD (result luma (before (subpictures 1))) 31 0 ∷ getD (result luma (after (subpictures 1))) 31 0 ∷ [] ≡ 0 ∷ 50 ∷ []
 
 pub rewritten-outside : RewrittenOutside
-unfolding everyFrom allBelow elem sumBelow sumBelowℤ tabulate painted clip3 distance rounded clipSample clippedChange tap tapSum filtered ctbSize planeOf lineRule bottomDistance sliceOf subpicOf tileColumnOf tileRowOf tileDisables sliceDisables subpicDisables stepCause columnSide rowSide cornerDisabled find lineClip virtualClip sideClip clip clipPosition columnClip rowClip paddedRow pastCorner paddedColumn read ctbParam sliceParam bankNumber fixedCoeff classWindow filtH filtV filtD0 filtD1 windowRows windowSum windowSums larger diagonal mainGradient otherGradient strength activity transposeIdx filtIdx classOfSums classOf blockClass lumaF lumaC tapOrder lumaRows lumaPlus lumaMinus lumaWith lumaSample lumaOn isFiltered atIndex filteredPlane result
+unfolding everyFrom allBelow elem sumBelow sumBelowℤ tabulate painted clip3 distance rounded clipSample clippedChange tap tapSum filtered
+    ctbSize planeOf lineRule bottomDistance sliceOf subpicOf tileColumnOf tileRowOf tileDisables sliceDisables subpicDisables stepCause
+    columnSide rowSide cornerDisabled find lineClip virtualClip sideClip clip clipPosition columnClip rowClip paddedRow pastCorner
+    paddedColumn read ctbParam sliceParam bankNumber fixedCoeff classWindow filtH filtV filtD0 filtD1 windowRows windowSum windowSums
+    larger diagonal mainGradient otherGradient strength activity transposeIdx filtIdx classOfSums classOf blockClass lumaF lumaC tapOrder
+    lumaRows lumaPlus lumaMinus lumaWith lumaSample lumaOn isFiltered atIndex filteredPlane result
 rewritten-outside = record { filtered-inside = refl; differ-outside = refl; differ-if-open = refl }
 
 -- the switch is off, and by the claim there is none

@@ -75,7 +75,8 @@ fn show_position(index: u16) {
     print(b")");
 }
 
-// Two by two CTBs in 40 by 40 samples, the upper left one of another slice, the slice switch off: what stands for (31,31) at the sample (32,32).
+// Two by two CTBs in 40 by 40 samples, the upper left one of another slice, the slice switch off: what stands for (31,31) at the sample
+// (32,32).
 pub fn show_corner() {
     let picture = Picture {
         width: 40,

@@ -13,7 +13,8 @@ use Rattle.alf_class_map.proofs.class_address.Tie as tie
 -- the layout that it is given
 abbrev layout : tie.Start → Layout
 layout s =
-    layoutOf (s .args .picture) (s .args .virtual-columns .now) (s .args .virtual-rows .now) (s .args .tile-columns .now) (s .args .tile-rows .now)
+    layoutOf (s .args .picture) (s .args .virtual-columns .now) (s .args .virtual-rows .now) (s .args .tile-columns .now)
+    (s .args .tile-rows .now)
     (s .args .slice-map .now) (s .args .subpic-map .now) (s .args .subpic-across .now)
 
 ok : (s : tie.Start) → Accepted (layout s)

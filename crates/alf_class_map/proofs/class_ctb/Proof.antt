@@ -39,7 +39,8 @@ start c = c .before .before .before .before .before .before .before .before .bef
 
 -- a CTB's place in the grid
 few : (s : tie.Start Inv-loop μ-loop) → s .args .ctb .row ≤ 128
-few s = place-bound (s .pre .0 .rooms .grid .ctbLow) (height-bounds (s .args .picture) (s .pre .0 .rooms .sizes) (s .pre .0 .rooms .ctbSize) .1) (s .pre .4)
+few s = place-bound (s .pre .0 .rooms .grid .ctbLow)
+    (height-bounds (s .args .picture) (s .pre .0 .rooms .sizes) (s .pre .0 .rooms .ctbSize) .1) (s .pre .4)
 
 loop-holds : tie.Need-loop-holds Inv-loop μ-loop
 loop-holds c = (
@@ -57,7 +58,8 @@ found : (c : tie.After-row-piece Inv-loop μ-loop) → let a = start (c .before)
 found c =
     let s = start (c .before) in
     let work = s .pre .0 .rooms in
-    turn (rows-regular (work .grid) (work .sizes) (work .ctbSize) (s .pre .2) 4 1) whole walk-luma (work .grid .ctbHigh) (c .before .before .loop .inv .0)
+    turn (rows-regular (work .grid) (work .sizes) (work .ctbSize) (s .pre .2) 4 1) whole walk-luma (work .grid .ctbHigh)
+    (c .before .before .loop .inv .0)
     (omega (arith, c .before .before .before .ctb-limit .ensures, c .before .loop-test .taken)) (c .row-piece .ensures)
 
 class-strip-requires : tie.Need-class-strip-requires Inv-loop μ-loop
@@ -83,7 +85,8 @@ loop-again c =
       omega arith,
       λ l of e r.
           paint-stacked _ _ _ _ _ _ (inv .4 l of e r)
-          (c .before .before .before .before .before .before .class-strip .ensures l of e (row-piece of 1 1 4 (s .pre .0 .rooms .grid) r (t .piece)))
+          (c .before .before .before .before .before .before .class-strip .ensures l of e
+          (row-piece of 1 1 4 (s .pre .0 .rooms .grid) r (t .piece)))
           (ap (λ (n : ℕ). n / 4) (t .start)) (omega (arith, inv .0 .from)) (omega (arith, t .start, t .facts .numbers .filled)),
     )
 
@@ -104,8 +107,15 @@ class-ctb-spec =
     loop-holds
     (λ c κs.
     let s = start c in
-    let most = height-bounds (s .args .picture) (s .pre .0 .rooms .sizes) (s .pre .0 .rooms .ctbSize) in
-    (s .pre .0 .rooms .grid, omega arith, omega arith, omega arith, few s, omega (arith, most, c .loop-test .taken, c .before .before .ctb-limit .ensures), c .before .loop .inv .0 .from))
+    let most = height-bounds (s .args .picture) (s .pre .0 .rooms .sizes) (s .pre .0 .rooms .ctbSize) in (
+      s .pre .0 .rooms .grid,
+      omega arith,
+      omega arith,
+      omega arith,
+      few s,
+      omega (arith, most, c .loop-test .taken, c .before .before .ctb-limit .ensures),
+      c .before .loop .inv .0 .from,
+    ))
     class-strip-requires
     loop-less
     loop-again

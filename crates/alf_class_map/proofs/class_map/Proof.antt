@@ -19,21 +19,24 @@ use Rattle.alf_class_map.proofs.class_map.Statement.{statement}
 use Rattle.alf_class_map.proofs.class_map.Tie as tie
 
 abbrev Inv-loop : tie.InvT-loop
-Inv-loop picture virtual-columns virtual-rows tile-columns tile-rows slice-map subpic-map subpic-across luma map₀ grid total copy₀ differences₀ k₀
+Inv-loop picture virtual-columns virtual-rows tile-columns tile-rows slice-map subpic-map subpic-across luma map₀ grid total
+    copy₀ differences₀ k₀
     map copy differences k =
     let l = layoutOf picture virtual-columns virtual-rows tile-columns tile-rows slice-map subpic-map subpic-across in
     (k ≤ grid .columns * grid .rows) × (grid .columns * grid .rows ≤ 16384) × (length copy ≡ area) × (length differences ≡ 4 * area)
     × Paint map₀ (beforeCtb l (classPlane l) k) (classAt l luma) map
 
 abbrev μ-loop : tie.MeasureT-loop
-μ-loop picture virtual-columns virtual-rows tile-columns tile-rows slice-map subpic-map subpic-across luma map₀ grid total copy₀ differences₀ k₀
+μ-loop picture virtual-columns virtual-rows tile-columns tile-rows slice-map subpic-map subpic-across luma map₀ grid total
+    copy₀ differences₀ k₀
     map copy differences k =
     total - k
 
 -- the layout that it is given
 abbrev layout : tie.Start Inv-loop μ-loop → Layout
 layout s =
-    layoutOf (s .args .picture) (s .args .virtual-columns .now) (s .args .virtual-rows .now) (s .args .tile-columns .now) (s .args .tile-rows .now)
+    layoutOf (s .args .picture) (s .args .virtual-columns .now) (s .args .virtual-rows .now) (s .args .tile-columns .now)
+    (s .args .tile-rows .now)
     (s .args .slice-map .now) (s .args .subpic-map .now) (s .args .subpic-across .now)
 
 ok : (s : tie.Start Inv-loop μ-loop) → Accepted (layout s)
@@ -45,11 +48,18 @@ grid-requires c κs =
     (ok s .sizes, ok s .ctbSize)
 
 loop-holds : tie.Need-loop-holds Inv-loop μ-loop
-loop-holds c = (omega arith, few-ctbs (c .before .grid .ensures), length-replicate area zero, length-replicate (4 * area) zero, paint-none (no-ctb _ _))
+loop-holds c = (
+  omega arith,
+  few-ctbs (c .before .grid .ensures),
+  length-replicate area zero,
+  length-replicate (4 * area) zero,
+  paint-none (no-ctb _ _),
+)
 
 class-address-requires : tie.Need-class-address-requires Inv-loop μ-loop
 class-address-requires c κs =
-    let s = c .before .before .before .before .before .before .before .before .before .before .before .before .before .before .before .before in
+    let s = c .before .before .before .before .before .before .before .before .before .before .before .before .before .before
+    .before .before in
     let inv = c .before .before .before .before .loop .inv in
     (c .before .before .before .before .before .before .grid .ensures, omega arith, omega arith, omega arith, rw (inv .4 .len) (s .pre))
 
@@ -62,7 +72,8 @@ loop-again c =
       search needs,
       search needs,
       let s = turn .before .before .before .before .before .before .before .before .before .before .before .before in
-          next-classified (layout s) (s .args .luma .now) (turn .loop .k) (inv .4) (c .before .before .before .before .class-address .ensures),
+          next-classified (layout s) (s .args .luma .now) (turn .loop .k) (inv .4)
+          (c .before .before .before .before .class-address .ensures),
     )
 
 returns : tie.Need-returns Inv-loop μ-loop
@@ -70,7 +81,8 @@ unfolding classMap
 returns c =
     let s = c .before .before .before .before .before .before .before .before .before .before .before .before .before in
     let inv = c .before .loop .inv in
-    all-painted (layout s) (ok s) 4 4 4 whole-blocks whole-blocks _ (map-length (layout s) _ _ (s .pre)) (c .before .before .before .grid .ensures) _ (inv .4)
+    all-painted (layout s) (ok s) 4 4 4 whole-blocks whole-blocks _ (map-length (layout s) _ _ (s .pre))
+    (c .before .before .before .grid .ensures) _ (inv .4)
     (le-antisymm (inv .0) (c .loop-test .left))
 
 pub class-map-spec : {M : Type 1} → statement M

@@ -17,8 +17,14 @@ copy-piece-requires : tie.Need-copy-piece-requires
 copy-piece-requires c κs =
     let s = c .before .before .before .before .before .before in
     let across = s .pre .1 .numbers in
-    let down = s .pre .2 .numbers in
-    (across, down .low, down .filled, down .high, rows-fit _ down (s .pre .0 .lumaLength), copy-fits across down (s .pre .0 .rooms .copyRoom))
+    let down = s .pre .2 .numbers in (
+      across,
+      down .low,
+      down .filled,
+      down .high,
+      rows-fit _ down (s .pre .0 .lumaLength),
+      copy-fits across down (s .pre .0 .rooms .copyRoom),
+    )
 
 -- what the function is given
 abbrev start : tie.After-copy-piece → tie.Start

@@ -19,7 +19,8 @@ use Rattle.alf_lists.proofs.Painted.{Paint, paint-is, paint-none}
 use Rattle.alf_lists.proofs.Regions.{rect-none}
 use Rattle.alf_pieces.proofs.CtbPieces.{column-piece}
 use Rattle.alf_lists.proofs.PaintedRects.{paint-beside}
-use Rattle.alf_pieces.proofs.PieceWalk.{walk-none, Walk, walk-start, walk-next, walk-done, Turn, turn, turn-less, block-piece, columns-regular}
+use Rattle.alf_pieces.proofs.PieceWalk.{walk-none, Walk, walk-start, walk-next, walk-done, Turn, turn, turn-less, block-piece}
+use Rattle.alf_pieces.proofs.PieceWalk.{columns-regular}
 use Rattle.alf_class_map.proofs.ClassWorks.{work-same}
 use Rattle.alf_class_map.proofs.class_strip.Statement.{statement}
 use Rattle.alf_class_map.proofs.class_strip.Tie as tie
@@ -28,7 +29,8 @@ abbrev Inv-loop : tie.InvT-loop
 Inv-loop picture grid virtual-columns ctb sides rows luma copy₀ differences₀ map₀ left right x₀ copy differences map x =
     Walk (axisOf (picture .width) (grid .ctb) virtual-columns 0 1) (ctb .column) x
     × (length copy ≡ length copy₀) × (length differences ≡ length differences₀) × (length map ≡ length map₀)
-    × ((l : Layout) → CtbOf l picture ctb sides → l .virtualColumns ≡ virtual-columns → PieceOf (lumaPlane l .rows) (rowSide l ctb) (ctb .row) rows
+    × ((l : Layout) → CtbOf l picture ctb sides → l .virtualColumns ≡ virtual-columns
+    → PieceOf (lumaPlane l .rows) (rowSide l ctb) (ctb .row) rows
     → Paint map₀ (inRect (picture .width / 4) (ctb .column * grid .ctb / 4) (x / 4) (rows .start / 4) (rows .end / 4)) (classAt l luma) map)
 
 abbrev μ-loop : tie.MeasureT-loop
@@ -40,7 +42,8 @@ start c = c .before .before .before .before .before .before .before .before .bef
 
 -- a CTB's place in the grid
 few : (s : tie.Start Inv-loop μ-loop) → s .args .ctb .column ≤ 128
-few s = place-bound (s .pre .0 .rooms .grid .ctbLow) (width-bounds (s .args .picture) (s .pre .0 .rooms .sizes) (s .pre .0 .rooms .ctbSize) .1) (s .pre .3)
+few s = place-bound (s .pre .0 .rooms .grid .ctbLow)
+    (width-bounds (s .args .picture) (s .pre .0 .rooms .sizes) (s .pre .0 .rooms .ctbSize) .1) (s .pre .3)
 
 loop-holds : tie.Need-loop-holds Inv-loop μ-loop
 loop-holds c = (
@@ -53,12 +56,14 @@ loop-holds c = (
 
 -- the piece that a turn finds
 found : (c : tie.After-column-piece Inv-loop μ-loop) → let a = start (c .before) .args in
-    Turn (axisOf (a .picture .width) (a .grid .ctb) (a .virtual-columns .now) 0 1) (either (a .sides .left) (a .sides .right)) (a .ctb .column)
+    Turn (axisOf (a .picture .width) (a .grid .ctb) (a .virtual-columns .now) 0 1) (either (a .sides .left) (a .sides .right))
+    (a .ctb .column)
     (c .before .before .loop .x) (c .column-piece .result)
 found c =
     let s = start (c .before) in
     let work = s .pre .0 .rooms in
-    turn (columns-regular (work .grid) (work .sizes) (work .ctbSize) (s .pre .1) 1) whole walk-none (work .grid .ctbHigh) (c .before .before .loop .inv .0)
+    turn (columns-regular (work .grid) (work .sizes) (work .ctbSize) (s .pre .1) 1) whole walk-none (work .grid .ctbHigh)
+    (c .before .before .loop .inv .0)
     (omega (arith, c .before .before .before .ctb-limit .ensures, c .before .loop-test .taken)) (c .column-piece .ensures)
 
 class-piece-requires : tie.Need-class-piece-requires Inv-loop μ-loop
@@ -84,7 +89,8 @@ loop-again c =
       omega arith,
       λ l of e down.
           paint-beside _ _ _ _ _ _ (inv .4 l of e down)
-          (c .before .before .before .before .before .before .class-piece .ensures l _ of (column-piece of 1 1 4 (s .pre .0 .rooms .grid) e (t .piece)) down)
+          (c .before .before .before .before .before .before .class-piece .ensures l _ of
+          (column-piece of 1 1 4 (s .pre .0 .rooms .grid) e (t .piece)) down)
           (ap (λ (n : ℕ). n / 4) (t .start)) (omega (arith, inv .0 .from)) (omega (arith, t .start, t .facts .numbers .filled)),
     )
 
@@ -105,8 +111,14 @@ class-strip-spec =
     loop-holds
     (λ c κs.
     let s = start c in
-    let most = width-bounds (s .args .picture) (s .pre .0 .rooms .sizes) (s .pre .0 .rooms .ctbSize) in
-    (s .pre .0 .rooms .grid, omega arith, omega arith, few s, omega (arith, most, c .loop-test .taken, c .before .before .ctb-limit .ensures), c .before .loop .inv .0 .from))
+    let most = width-bounds (s .args .picture) (s .pre .0 .rooms .sizes) (s .pre .0 .rooms .ctbSize) in (
+      s .pre .0 .rooms .grid,
+      omega arith,
+      omega arith,
+      few s,
+      omega (arith, most, c .loop-test .taken, c .before .before .ctb-limit .ensures),
+      c .before .loop .inv .0 .from,
+    ))
     class-piece-requires
     loop-less
     loop-again

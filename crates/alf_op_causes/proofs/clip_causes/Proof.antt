@@ -10,9 +10,11 @@ clip-causes-spec =
     (tie.spec
     (λ c κs. search needs)
     (λ c. search needs)
-    (λ c. let judged : tie.After-judge-causes = search needs in names-none (judged .judge-causes .result) (judged .judge-causes .ensures) (c .before .answer .given .1) _)
+    (λ c. let judged : tie.After-judge-causes = search needs in names-none (judged .judge-causes .result) (judged .judge-causes .ensures)
+    (c .before .answer .given .1) _)
     (λ c. search needs)
-    (λ c κs. let judged : tie.After-judge-causes = search needs in accepts (judged .judge-causes .result) (judged .judge-causes .ensures) (c .enum-told .given .1))
+    (λ c κs. let judged : tie.After-judge-causes = search needs in accepts (judged .judge-causes .result) (judged .judge-causes .ensures)
+    (c .enum-told .given .1))
     (λ c.
     let judged : tie.After-judge-causes = search needs in
     names (judged .judge-causes .result) (judged .judge-causes .ensures) (c .before .enum-told .given .1) (c .causes-at .ensures)))

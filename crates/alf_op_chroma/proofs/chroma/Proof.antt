@@ -13,8 +13,11 @@ returns c =
 returns-2 : tie.Need-returns-2
 returns-2 c =
     let judged = c .before .before .before .before .before .before .before .before .before .judge-chroma in
-    let taken = c .before .before .before .before .before .before .before .enum-told .given .1 in
-    (sym (accepts (judged .result) (judged .ensures) taken), written (judged .result) (judged .ensures) taken _ (c .before .before .filter-plane .ensures))
+    let taken = c .before .before .before .before .before .before .before .enum-told .given .1 in (
+      sym (accepts (judged .result) (judged .ensures) taken),
+      written (judged .result) (judged .ensures) taken _
+          (c .before .before .filter-plane .ensures),
+    )
 
 pub chroma-spec : {M : Type 1} → statement M
 chroma-spec =
@@ -27,6 +30,7 @@ chroma-spec =
     (λ c. search needs)
     (λ c. search needs)
     (λ c. search needs)
-    (λ c κs. accepts (c .before .before .before .before .before .before .judge-chroma .result) (c .before .before .before .before .before .before .judge-chroma .ensures) (c .before .before .before .before .enum-told .given .1))
+    (λ c κs. accepts (c .before .before .before .before .before .before .judge-chroma .result)
+    (c .before .before .before .before .before .before .judge-chroma .ensures) (c .before .before .before .before .enum-told .given .1))
     (λ c. search needs)
     returns-2)

@@ -15,8 +15,11 @@ returns-2 : tie.Need-returns-2
 unfolding result
 returns-2 c =
     let judged = c .before .before .before .before .before .before .judge-classes in
-    let taken = c .before .before .before .before .enum-told .given .1 in
-    (sym (accepts (judged .result) (judged .ensures) taken), written (judged .result) (judged .ensures) taken _ (c .before .before .class-map .ensures))
+    let taken = c .before .before .before .before .enum-told .given .1 in (
+      sym (accepts (judged .result) (judged .ensures) taken),
+      written (judged .result) (judged .ensures) taken _
+          (c .before .before .class-map .ensures),
+    )
 
 pub classes-spec : {M : Type 1} → statement M
 classes-spec =
@@ -26,6 +29,7 @@ classes-spec =
     (λ c. search needs)
     (λ c. search needs)
     returns
-    (λ c κs. accepts (c .before .before .before .judge-classes .result) (c .before .before .before .judge-classes .ensures) (c .before .enum-told .given .1))
+    (λ c κs. accepts (c .before .before .before .judge-classes .result) (c .before .before .before .judge-classes .ensures)
+    (c .before .enum-told .given .1))
     (λ c. search needs)
     returns-2)

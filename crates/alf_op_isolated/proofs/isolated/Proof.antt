@@ -10,7 +10,8 @@ isolated-spec =
     (tie.spec
     (λ c κs. search needs)
     (λ c. search needs)
-    (λ c. rejects (c .before .before .before .judge-isolation .result) (c .before .before .before .judge-isolation .ensures) (c .before .answer .given .1) _)
+    (λ c. rejects (c .before .before .before .judge-isolation .result) (c .before .before .before .judge-isolation .ensures)
+    (c .before .answer .given .1) _)
     (λ c. search needs)
     (λ c κs. accepts (c .before .before .judge-isolation .result) (c .before .before .judge-isolation .ensures) (c .enum-told .given .1))
     (λ c.

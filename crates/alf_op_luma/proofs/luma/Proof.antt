@@ -13,8 +13,11 @@ returns c =
 returns-2 : tie.Need-returns-2
 returns-2 c =
     let judged = c .before .before .before .before .before .before .before .judge-luma in
-    let taken = c .before .before .before .before .before .enum-told .given .1 in
-    (sym (accepts (judged .result) (judged .ensures) taken), written (judged .result) (judged .ensures) taken _ (c .before .before .filter-plane .ensures))
+    let taken = c .before .before .before .before .before .enum-told .given .1 in (
+      sym (accepts (judged .result) (judged .ensures) taken),
+      written (judged .result) (judged .ensures) taken _
+          (c .before .before .filter-plane .ensures),
+    )
 
 pub luma-spec : {M : Type 1} → statement M
 luma-spec =
@@ -25,6 +28,7 @@ luma-spec =
     (λ c. search needs)
     returns
     (λ c. search needs)
-    (λ c κs. accepts (c .before .before .before .before .judge-luma .result) (c .before .before .before .before .judge-luma .ensures) (c .before .before .enum-told .given .1))
+    (λ c κs. accepts (c .before .before .before .before .judge-luma .result) (c .before .before .before .before .judge-luma .ensures)
+    (c .before .before .enum-told .given .1))
     (λ c. search needs)
     returns-2)

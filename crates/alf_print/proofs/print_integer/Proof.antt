@@ -1,5 +1,5 @@
--- `alf_print::print_integer` meets its contract: the test tells the sign, and in 64 bits the opposite of each number of 32 bits fits. Assumes
--- nothing.
+-- `alf_print::print_integer` meets its contract: the test tells the sign, and in 64 bits the opposite of each number of 32 bits fits.
+-- Assumes nothing.
 use mathlib.Core.Path.{_≡_}
 use mathlib.Core.Bool.{true, false, true≢false}
 use native.Mathlib.Omega.{arith}

@@ -1,5 +1,5 @@
--- What the rules give beside each kind of border, worked out: where a read is moved to, which maps are rejected, which regions are isolated.
--- Assumes nothing.
+-- What the rules give beside each kind of border, worked out: where a read is moved to, which maps are rejected, which regions are
+-- isolated. Assumes nothing.
 use mathlib.Core.Path.{_≡_, refl}
 use mathlib.Core.Bool.{true, false}
 use mathlib.Core.List.{List, [], _∷_, map}
@@ -9,11 +9,17 @@ use lib.ListN.{replicate, getD}
 use Rattle.alf_spec.specs.Input.{Layout, layoutOf, classes}
 use Rattle.alf_spec.specs.Lists.{allBelow, everyFrom, elem, tabulate}
 use Rattle.alf_spec.specs.Geometry.{Side, before, after, ctbSize, subWidth, subHeight, planeOf, lumaPlane, chromaPlane}
-use Rattle.alf_spec.specs.Boundary.{sliceOf, subpicOf, tileColumnOf, tileRowOf, tileDisables, sliceDisables, subpicDisables, stepCause, columnSide, rowSide, cornerDisabled, find, lineClip, virtualClip, sideClip, clip, clipPosition}
+use Rattle.alf_spec.specs.Boundary.{sliceOf, subpicOf, tileColumnOf, tileRowOf, tileDisables, sliceDisables, subpicDisables}
+use Rattle.alf_spec.specs.Boundary.{stepCause, columnSide, rowSide, cornerDisabled, find, lineClip, virtualClip, sideClip, clip}
+use Rattle.alf_spec.specs.Boundary.{clipPosition}
 use Rattle.alf_spec.specs.Padding.{columnClip, rowClip, pastCorner, paddedColumn, paddedRow, read}
 use Rattle.alf_spec.specs.Classes.{classWindow}
-use Rattle.alf_spec.specs.Isolation.{openStep, columnStep, rowStep, diagonalStep, inside, staysInside, isolated, regionOf, sliceRegion, tileRegion, subpicRegion, outputInside}
-use Rattle.alf_spec.specs.Faults.{pictureSizeValid, ctbSizeValid, bitDepthValid, chromaFormatValid, layoutLengthsValid, virtualListValid, virtualBoundariesValid, followsAt, tileListValid, tilesValid, cornerAt, cornersInRow, cornersValid, slicesValid, subpicturesValid, regionLengthValid, regionValid, unless, layoutFault, isolationFault}
+use Rattle.alf_spec.specs.Isolation.{openStep, columnStep, rowStep, diagonalStep, inside, staysInside, isolated, regionOf}
+use Rattle.alf_spec.specs.Isolation.{sliceRegion, tileRegion, subpicRegion, outputInside}
+use Rattle.alf_spec.specs.Faults.{pictureSizeValid, ctbSizeValid, bitDepthValid, chromaFormatValid, layoutLengthsValid}
+use Rattle.alf_spec.specs.Faults.{virtualListValid, virtualBoundariesValid, followsAt, tileListValid, tilesValid, cornerAt}
+use Rattle.alf_spec.specs.Faults.{cornersInRow, cornersValid, slicesValid, subpicturesValid, regionLengthValid, regionValid, unless}
+use Rattle.alf_spec.specs.Faults.{layoutFault, isolationFault}
 use Rattle.alf_spec.proofs.Examples.{picture, layout}
 use Rattle.alf_spec.proofs.IsolatedRegions.SmallRegions.{twoSubpictures, twoBlocks}
 
@@ -59,7 +65,8 @@ formatted format rows = layoutOf (picture 32 64 5 8 format 1) [] rows (0 ∷ [])
 abbrev column : Layout → ℕ → ℕ → ℕ
 column l x p = paddedColumn l (lumaPlane l) x 0 p 0
 
--- the column that stands at place k of the class window of the block at column 8, beside a virtual boundary there: each sample of row 0 is its column
+-- the column that stands at place k of the class window of the block at column 8, beside a virtual boundary there: each sample of row 0 is
+-- its column
 abbrev windowColumn : ℕ → ℕ
 windowColumn k = getD (classWindow (twoBlocks (8 ∷ [])) (0 ∷ 1 ∷ 2 ∷ 3 ∷ 4 ∷ 5 ∷ 6 ∷ 7 ∷ 8 ∷ 9 ∷ 10 ∷ 11 ∷ 12 ∷ 13 ∷ 14 ∷ 15 ∷ []) 8 0) k 0
 
@@ -84,17 +91,23 @@ pub record Borders : Type 0 where
   pub side-before : column closed 34 31 ≡ 32
   pub side-after : column closed 28 34 ≡ 31
   -- the CTB down-right is of another slice: (32, 32), a neighbour of (31, 31), becomes (31, 32)
-  pub lower-right : paddedColumn cornered (lumaPlane cornered) 31 31 32 32 ∷ paddedRow cornered (lumaPlane cornered) 31 31 32 32 ∷ [] ≡ 31 ∷ 32 ∷ []
+  pub lower-right : paddedColumn cornered (lumaPlane cornered) 31 31 32 32 ∷ paddedRow cornered (lumaPlane cornered) 31 31 32 32
+      ∷ [] ≡ 31 ∷ 32 ∷ []
   -- the line lies 2 chroma rows above the CTB's bottom: at 28 in 4:2:0, where chroma row 14 lies, and at 30 in 4:2:2
-  pub line-420 : chromaClip (formatted 1 []) 11 after ∷ chromaClip (formatted 1 []) 12 after ∷ chromaClip (formatted 1 []) 13 before ∷ chromaClip (formatted 1 []) 14 before ∷ []
+  pub line-420 : chromaClip (formatted 1 []) 11 after ∷ chromaClip (formatted 1 []) 12 after ∷ chromaClip (formatted 1 []) 13 before
+      ∷ chromaClip (formatted 1 []) 14 before ∷ []
       ≡ none ∷ some 28 ∷ none ∷ some 28 ∷ []
-  pub line-422 : chromaClip (formatted 2 []) 25 after ∷ chromaClip (formatted 2 []) 26 after ∷ chromaClip (formatted 2 []) 29 before ∷ chromaClip (formatted 2 []) 30 before ∷ []
+  pub line-422 : chromaClip (formatted 2 []) 25 after ∷ chromaClip (formatted 2 []) 26 after ∷ chromaClip (formatted 2 []) 29 before
+      ∷ chromaClip (formatted 2 []) 30 before ∷ []
       ≡ none ∷ some 30 ∷ none ∷ some 30 ∷ []
   -- below, a virtual boundary comes before the line: that at 32 is found from row 28 on, though the line at 30 is nearer
-  pub virtual-first : map (λ y. chromaClip (formatted 3 (32 ∷ [])) y after) (27 ∷ 28 ∷ 29 ∷ 30 ∷ []) ≡ some 30 ∷ some 32 ∷ some 32 ∷ some 32 ∷ []
+  pub virtual-first : map (λ y. chromaClip (formatted 3 (32 ∷ [])) y after) (27 ∷ 28 ∷ 29 ∷ 30 ∷ []) ≡ some 30 ∷ some 32
+      ∷ some 32 ∷ some 32 ∷ []
   -- b or c different is forbidden for slices; any one different for subpictures
-  pub slice-maps : map slices ((1 ∷ 0 ∷ 0 ∷ 0 ∷ []) ∷ (0 ∷ 1 ∷ 0 ∷ 0 ∷ []) ∷ (0 ∷ 0 ∷ 1 ∷ 0 ∷ []) ∷ (0 ∷ 0 ∷ 0 ∷ 1 ∷ []) ∷ []) ≡ 0 ∷ 8 ∷ 8 ∷ 0 ∷ []
-  pub subpic-maps : map subpics ((1 ∷ 0 ∷ 0 ∷ 0 ∷ []) ∷ (0 ∷ 1 ∷ 0 ∷ 0 ∷ []) ∷ (0 ∷ 0 ∷ 1 ∷ 0 ∷ []) ∷ (0 ∷ 0 ∷ 0 ∷ 1 ∷ []) ∷ []) ≡ 9 ∷ 9 ∷ 9 ∷ 9 ∷ []
+  pub slice-maps : map slices ((1 ∷ 0 ∷ 0 ∷ 0 ∷ []) ∷ (0 ∷ 1 ∷ 0 ∷ 0 ∷ []) ∷ (0 ∷ 0 ∷ 1 ∷ 0 ∷ []) ∷ (0 ∷ 0 ∷ 0 ∷ 1 ∷ []) ∷ []) ≡ 0
+      ∷ 8 ∷ 8 ∷ 0 ∷ []
+  pub subpic-maps : map subpics ((1 ∷ 0 ∷ 0 ∷ 0 ∷ []) ∷ (0 ∷ 1 ∷ 0 ∷ 0 ∷ []) ∷ (0 ∷ 0 ∷ 1 ∷ 0 ∷ []) ∷ (0 ∷ 0 ∷ 0 ∷ 1 ∷ []) ∷ []) ≡ 9
+      ∷ 9 ∷ 9 ∷ 9 ∷ []
   -- the step down-right into another slice is not open, nor a diagonal step over a disabled side
   pub slice-around : isolated cornered (sliceRegion cornered 0) ≡ true
   pub upper-slice : isolated stackedSlices (sliceRegion stackedSlices 0) ≡ true
@@ -104,7 +117,12 @@ pub record Borders : Type 0 where
   pub classes-inside : map (outputInside classes twoSubpictures (subpicRegion twoSubpictures 0)) (7 ∷ 8 ∷ []) ≡ true ∷ false ∷ []
 
 pub borders : Borders
-unfolding allBelow everyFrom elem tabulate ctbSize subWidth subHeight planeOf sliceOf subpicOf tileColumnOf tileRowOf tileDisables sliceDisables subpicDisables stepCause columnSide rowSide cornerDisabled find lineClip virtualClip sideClip clip clipPosition columnClip rowClip pastCorner paddedColumn paddedRow read classWindow openStep columnStep rowStep diagonalStep inside staysInside isolated regionOf sliceRegion tileRegion subpicRegion outputInside pictureSizeValid ctbSizeValid bitDepthValid chromaFormatValid layoutLengthsValid virtualListValid virtualBoundariesValid followsAt tileListValid tilesValid cornerAt cornersInRow cornersValid slicesValid subpicturesValid regionLengthValid regionValid unless layoutFault isolationFault
+unfolding allBelow everyFrom elem tabulate ctbSize subWidth subHeight planeOf sliceOf subpicOf tileColumnOf tileRowOf tileDisables
+    sliceDisables subpicDisables stepCause columnSide rowSide cornerDisabled find lineClip virtualClip sideClip clip clipPosition columnClip
+    rowClip pastCorner paddedColumn paddedRow read classWindow openStep columnStep rowStep diagonalStep inside staysInside isolated
+    regionOf sliceRegion tileRegion subpicRegion outputInside pictureSizeValid ctbSizeValid bitDepthValid chromaFormatValid
+    layoutLengthsValid virtualListValid virtualBoundariesValid followsAt tileListValid tilesValid cornerAt cornersInRow cornersValid
+    slicesValid subpicturesValid regionLengthValid regionValid unless layoutFault isolationFault
 borders = record {
   virtual-before = refl;
   virtual-after = refl;

@@ -1,5 +1,5 @@
--- The cells of an axis, cut at its virtual boundaries and at its CTBs' sides: what goes over each boundary within a cell holds along the whole
--- cell. Assumes nothing.
+-- The cells of an axis, cut at its virtual boundaries and at its CTBs' sides: what goes over each boundary within a cell holds along the
+-- whole cell. Assumes nothing.
 use mathlib.Core.Path.{_≡_, sym, ap, _∙_}
 use mathlib.Core.Logic.{_↔_, by-cases}
 use mathlib.Core.List.{List·Memᴰ}

@@ -1,5 +1,5 @@
--- The clamping of a neighbour to the clip positions of a sample ensures what `Ways` asks, on either side, along either axis, and for a plane of
--- either ratio. Assumes nothing.
+-- The clamping of a neighbour to the clip positions of a sample ensures what `Ways` asks, on either side, along either axis, and for a
+-- plane of either ratio. Assumes nothing.
 use mathlib.Core.Path.{_≡_, refl, ap}
 use mathlib.Core.Logic.{_↔_, _≢_}
 use mathlib.Core.Bool.{true}
@@ -34,7 +34,8 @@ at-most-7 : (d : Side) (x u p : ℕ) → Toward d x u → Toward d u p → Reach
 at-most-7 before x u p t s r = omega (arith, r .low)
 at-most-7 after x u p t s r = omega (arith, r .high)
 
-module _ (a : Axis) (ok : Regular a) (ratio : Ratio (a .ratio)) (fits : LineFits (a .line)) (side : Side → ClipCause) (x p : ℕ) (inX : x < samples a) where
+module _ (a : Axis) (ok : Regular a) (ratio : Ratio (a .ratio)) (fits : LineFits (a .line)) (side : Side → ClipCause) (x p : ℕ)
+    (inX : x < samples a) where
   abbrev X : ℕ
   X = lumaPosition a x
 

@@ -1,5 +1,5 @@
--- A clip position stands in the sample's block of 8, or at its end, and one of three rules finds it; where there is none, no virtual boundary is
--- near, nor the line-buffer boundary, and the CTB's side, if it is near, is not disabled. Assumes nothing.
+-- A clip position stands in the sample's block of 8, or at its end, and one of three rules finds it; where there is none, no virtual
+-- boundary is near, nor the line-buffer boundary, and the CTB's side, if it is near, is not disabled. Assumes nothing.
 use mathlib.Core.Path.{_≡_, refl, sym, ap, _∙_}
 use mathlib.Core.Logic.{_⊎_, inl, inr}
 use mathlib.Core.Bool.{Bool, true, false, _&&_, true≢false}
@@ -14,7 +14,8 @@ use Rattle.alf_spec.specs.declared.Clip.{Clip}
 use Rattle.alf_spec.specs.declared.ClipCause.{ClipCause}
 use Rattle.alf_spec.specs.declared.ClipCause.the-variants.{LineBufferBoundary, VirtualBoundary}
 use Rattle.alf_spec.specs.Geometry.{Side, before, after, Axis, hasLine, ctbStart, inCtb}
-use Rattle.alf_spec.specs.Boundary.{disables, only, _orElse_, find, near, linePosition, lineClip, virtualClip, sideClip, clip, clipPosition}
+use Rattle.alf_spec.specs.Boundary.{disables, only, _orElse_, find, near, linePosition, lineClip, virtualClip, sideClip, clip}
+use Rattle.alf_spec.specs.Boundary.{clipPosition}
 use Rattle.alf_spec.proofs.Tests.{both, and-no}
 use Rattle.alf_spec.proofs.Axes.{Regular, lower, upper, parts}
 use Rattle.alf_spec.proofs.IsolatedRegions.Ratios.{LineFits}
@@ -92,8 +93,8 @@ yes-near : (d : Side) (x b : ℕ) → Near d x b → near d x b ≡ true
 yes-near before x b n = simp (le-leb b x (n .0)) (le-leb (x - b) _ (omega arith))
 yes-near after x b n = simp (lt-ltb x b (n .0)) (le-leb (b - x) _ (omega arith))
 
--- e is even and stands on that side of x, and no multiple of 8 stands between the two: the samples from x to e are of one block of 8. Virtual
--- boundaries and the sides of CTBs are multiples of 8, so that what stops at e crosses none of them.
+-- e is even and stands on that side of x, and no multiple of 8 stands between the two: the samples from x to e are of one block of 8.
+-- Virtual boundaries and the sides of CTBs are multiples of 8, so that what stops at e crosses none of them.
 abbrev pub Stop : Side → ℕ → ℕ → Type 0
 Stop before x e = (e % 2 ≡ 0) × (e ≤ x) × (e / 8 ≡ x / 8)
 Stop after x e = (e % 2 ≡ 0) × (x < e) × (pred e / 8 ≡ x / 8)
@@ -122,7 +123,8 @@ sideLimit after = 5
 abbrev pub Free : Axis → ℕ → (Side → ClipCause) → Side → Type 0
 Free a x side d = ((b : ℕ) → List·Memᴰ b (a .virtualBoundaries) → ¬ Near d x b) × (Near d x (bound a d x) → disables (side d) ≡ false)
 
--- the rule that finds the clip position e of x on that side: the line-buffer boundary, a virtual boundary, or the CTB's side where it is disabled
+-- the rule that finds the clip position e of x on that side: the line-buffer boundary, a virtual boundary, or the CTB's side where it is
+-- disabled
 pub data Rule (a : Axis) (x : ℕ) (side : Side → ClipCause) (d : Side) (e : ℕ) : Type 0 where
   line-rule : hasLine a ≡ true → e ≡ linePosition a x → Rule a x side d e
   virtual-rule : List·Memᴰ e (a .virtualBoundaries) → Rule a x side d e
@@ -173,7 +175,8 @@ module _ (a : Axis) (ok : Regular a) (x : ℕ) where
         let l = leb-true (a .ctb - a .line) (inCtb a x) (h .1) in
         line-found before (omega (arith, fits .0, fits .1, start8, ok .ctb8, ok .big, upper a ok x, parts a x)) (h .0))
         (λ q line n.
-        true≢false (sym (le-leb (a .ctb - a .line) (inCtb a x) (omega (arith, parts a x))) ∙ and-no (hasLine a) (leb (a .ctb - a .line) (inCtb a x)) q line))
+        true≢false (sym (le-leb (a .ctb - a .line) (inCtb a x) (omega (arith, parts a x)))
+        ∙ and-no (hasLine a) (leb (a .ctb - a .line) (inCtb a x)) q line))
     found-line after = only-ends _ LineBufferBoundary (linePosition a x)
         (λ q.
         let h = both (hasLine a) (near after x (linePosition a x)) q in
@@ -190,7 +193,8 @@ module _ (a : Axis) (ok : Regular a) (x : ℕ) where
         near-found d v (ok .virtual8 v m) (near-yes d x v q) (virtual-rule m)))
 
     tested-side : (d : Side) (n : ℕ) → n ≤ sideLimit d → sideLimit d ≤ n
-        → ClipEnds (Found a x side d) (Near d x (bound a d x) → disables (side d) ≡ false) (only (sideTest a d x n && disables (side d)) (side d) (bound a d x))
+        → ClipEnds (Found a x side d) (Near d x (bound a d x) → disables (side d) ≡ false)
+        (only (sideTest a d x n && disables (side d)) (side d) (bound a d x))
     tested-side d n h k =
         only-ends (sideTest a d x n && disables (side d)) (side d) (bound a d x)
         (λ q.
@@ -206,7 +210,8 @@ module _ (a : Axis) (ok : Regular a) (x : ℕ) where
     by-rules : (d : Side) → ClipEnds (Found a x side d) (Clear a x side d) (clip a x side d)
     unfolding clip
     by-rules before =
-        where-none (λ n. record { free = n .1; noLine = n .0 }) (or-ends (found-line before) (or-ends (found-virtual before) (found-side before)))
+        where-none (λ n. record { free = n .1; noLine = n .0 })
+        (or-ends (found-line before) (or-ends (found-virtual before) (found-side before)))
     by-rules after =
         where-none (λ n. record { free = (n .0, n .1 .1); noLine = n .1 .0 })
         (or-ends (found-virtual after) (or-ends (found-line after) (found-side after)))

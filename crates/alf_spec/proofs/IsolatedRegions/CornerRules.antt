@@ -26,8 +26,8 @@ neighbours n before zero h = absurd (false≢true h)
 neighbours n before (suc x) h = second x (next-gap n before (suc x) h .1)
 neighbours n after x h = first x (next-gap n after x h .1)
 
--- a rule for the four CTBs round a corner (upper left, upper right, lower left, lower right), by one of them, the one beside it, the one above
--- or below it and the one across the corner
+-- a rule for the four CTBs round a corner (upper left, upper right, lower left, lower right), by one of them, the one beside it, the one
+-- above or below it and the one across the corner
 abbrev ruleFrom : (ℕ → ℕ → ℕ → ℕ → Bool) → Side → Side → ℕ → ℕ → ℕ → ℕ → Bool
 ruleFrom rule before before own beside stacked across = rule across stacked beside own
 ruleFrom rule before after own beside stacked across = rule beside own across stacked
@@ -47,7 +47,8 @@ module _ (rule : ℕ → ℕ → ℕ → ℕ → Bool) (l : Layout) (map : List 
       simp (add-suc, suc-mul) (simp add-one at (all-at _ _ (all-at _ _ valid y (omega arith)) x (omega arith)))
 
   four-from : (d e : Side) (q r : ℕ) → Neighbours (ctbColumns l) d q → Neighbours (ctbRows l) e r
-      → ruleFrom rule d e (numberAt l map q r) (numberAt l map (next d q) r) (numberAt l map q (next e r)) (numberAt l map (next d q) (next e r)) ≡ true
+      → ruleFrom rule d e (numberAt l map q r) (numberAt l map (next d q) r) (numberAt l map q (next e r))
+      (numberAt l map (next d q) (next e r)) ≡ true
   four-from _ _ _ _ (second x h) (second y k) = four x y h k
   four-from _ _ _ _ (second x h) (first y k) = four x y h k
   four-from _ _ _ _ (first x h) (second y k) = four x y h k
@@ -65,14 +66,16 @@ not-odd : (n m : ℕ) → not (oddOneOut n n n m) ≡ true → eqb m n ≡ true
 not-odd n m h = eq-eqb m n (sym (eqb-true n m (not-false (eqb n m) (not-true (not (eqb n m)) (simp (eq-eqb n n refl) at h)))))
 
 -- the slice rule leaves up-left and down-right to the test of the diagonal step
-pub slice-corner : (d e : Side) (n m : ℕ) → ruleFrom sliceCorner d e n n n m ≡ true → (sameSide d e ≡ true → eqb m n ≡ true) → eqb m n ≡ true
+pub slice-corner : (d e : Side) (n m : ℕ) → ruleFrom sliceCorner d e n n n m ≡ true → (sameSide d e ≡ true → eqb m n ≡ true)
+    → eqb m n ≡ true
 slice-corner before before n m h same = same refl
 slice-corner before after n m h same = not-odd n m (both (not (oddOneOut n m n n)) _ h .1)
 slice-corner after before n m h same = not-odd n m (both (not (oddOneOut n n n m)) _ h .0)
 slice-corner after after n m h same = same refl
 
 subpic-rules : (a b c d : ℕ) → subpicCorner a b c d ≡ true
-    → (not (oddOneOut a b c d) ≡ true) × (not (oddOneOut a b d c) ≡ true) × (not (oddOneOut a c d b) ≡ true) × (not (oddOneOut b c d a) ≡ true)
+    → (not (oddOneOut a b c d) ≡ true) × (not (oddOneOut a b d c) ≡ true) × (not (oddOneOut a c d b) ≡ true)
+    × (not (oddOneOut b c d a) ≡ true)
 subpic-rules a b c d h =
     let p = both (not (oddOneOut a b c d)) _ h in
     let q = both (not (oddOneOut a b d c)) _ (p .1) in

@@ -38,7 +38,8 @@ module _ (l : Layout) (columnRatio rowRatio line x y : ℕ) where
   unfolding columnStep openStep planeOf
   column-step d q = rw (mul-one x, mul-one y) q
 
-  row-step : (e : Side) → openStep (planeOf l columnRatio rowRatio line .rows) (rowDisabled l (ctbHolding l x y)) e y ≡ true → rowStep l x y e ≡ true
+  row-step : (e : Side) → openStep (planeOf l columnRatio rowRatio line .rows) (rowDisabled l (ctbHolding l x y)) e y ≡ true
+      → rowStep l x y e ≡ true
   unfolding rowStep openStep planeOf
   row-step e q = rw (mul-one x, mul-one y) q
 
@@ -110,11 +111,14 @@ module _ (l : Layout) (ok : Accepted l) (columnRatio rowRatio line : ℕ) where
       carry c k F = subst₂ (λ (i j : ℕ). F (record { column = i; row = j })) (c .ctb) (k .ctb)
 
       -- so a step over its side is open at each
-      stepX : {m n : ℕ} → Over columns (columnDisabled l (ctbHolding l x y)) d x u m → Cell columns x m → Cell rows y n → columnStep l m n d ≡ true
-      stepX {m} {n} o c k = column-step l columnRatio rowRatio line m n d (carry c k (λ ctb. openStep columns (columnDisabled l ctb) d m ≡ true) (o .step))
+      stepX : {m n : ℕ} → Over columns (columnDisabled l (ctbHolding l x y)) d x u m → Cell columns x m → Cell rows y n
+          → columnStep l m n d ≡ true
+      stepX {m} {n} o c k = column-step l columnRatio rowRatio line m n d
+          (carry c k (λ ctb. openStep columns (columnDisabled l ctb) d m ≡ true) (o .step))
 
       stepY : {m n : ℕ} → Over rows (rowDisabled l (ctbHolding l x y)) e y v n → Cell columns x m → Cell rows y n → rowStep l m n e ≡ true
-      stepY {m} {n} w c k = row-step l columnRatio rowRatio line m n e (carry c k (λ ctb. openStep rows (rowDisabled l ctb) e n ≡ true) (w .step))
+      stepY {m} {n} w c k = row-step l columnRatio rowRatio line m n e
+          (carry c k (λ ctb. openStep rows (rowDisabled l ctb) e n ≡ true) (w .step))
 
       -- the one claim about two axes: first along cells, then over a side or a corner, if any, then along cells again
       pub arrive : Way columns (columnDisabled l (ctbHolding l x y)) d x u → Way rows (rowDisabled l (ctbHolding l x y)) e y v

@@ -49,5 +49,6 @@ module _ (columnOpen columnHeld rowOpen rowHeld : Side → Bool) (diagonalOpen d
   test-eight s = simp (
     on-both columnTest (λ d. imply (columnOpen d) (columnHeld d) (s .column d)),
     on-both rowTest (λ e. imply (rowOpen e) (rowHeld e) (s .row e)),
-    on-both (λ d. bothSides (diagonalTest d)) (λ d. on-both (diagonalTest d) (λ e. imply (diagonalOpen d e) (diagonalHeld d e) (s .diagonal d e))),
+    on-both (λ d. bothSides (diagonalTest d))
+        (λ d. on-both (diagonalTest d) (λ e. imply (diagonalOpen d e) (diagonalHeld d e) (s .diagonal d e))),
   )

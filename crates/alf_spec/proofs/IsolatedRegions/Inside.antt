@@ -11,8 +11,8 @@ use Rattle.alf_spec.specs.Geometry.{Plane, planeOf, lumaPlane, samples, 
 use Rattle.alf_spec.specs.Isolation.{inside}
 use Rattle.alf_spec.proofs.IsolatedRegions.Ratios.{lt-own}
 
--- 01: "Inside are the samples that lie in a block whose area byte is 1", "A chroma sample lies where twice its place lies" (02, card 4: its place
--- times the ratios): the plane's sample at column x and row y
+-- 01: "Inside are the samples that lie in a block whose area byte is 1", "A chroma sample lies where twice its place lies" (02, card 4: its
+-- place times the ratios): the plane's sample at column x and row y
 pub record Inside (l : Layout) (region : List ℕ) (g : Plane) (x y : ℕ) : Type 0 where
   pub column : x < samples (g .columns)
   pub row : y < samples (g .rows)

@@ -62,7 +62,8 @@ module _ (a : Axis) (ok : Regular a) (ratio : Ratio (a .ratio)) (x u : ℕ) wher
   past-side after after t q = refl
 
 -- the corner rule moves a column within the CTB
-pub end-cell : (a : Axis) → Regular a → Ratio (a .ratio) → (d : Side) (x m : ℕ) → outermost a d (lumaPosition a x) ≡ m → Cell a (lumaPosition a x) m
+pub end-cell : (a : Axis) → Regular a → Ratio (a .ratio) → (d : Side) (x m : ℕ) → outermost a d (lumaPosition a x) ≡ m
+    → Cell a (lumaPosition a x) m
     → Cell a (lumaPosition a x) (lumaPosition a (ctbEnd a d x))
 end-cell a ok ratio before x m q c =
     let start = ctbStart a (lumaPosition a x) in

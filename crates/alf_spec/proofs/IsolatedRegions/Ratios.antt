@@ -18,7 +18,10 @@ pub data Ratio : ℕ → Type 0 where
 -- the one place that says which
 pub chroma-ratios : (p : Picture) → Ratio (subWidth p) × Ratio (subHeight p)
 unfolding subWidth subHeight
-chroma-ratios p = (cond-either Ratio (within 1 2 (p .«chroma_format»)) 2 1 half whole, cond-either Ratio (eqb (p .«chroma_format») 1) 2 1 half whole)
+chroma-ratios p = (
+  cond-either Ratio (within 1 2 (p .«chroma_format»)) 2 1 half whole,
+  cond-either Ratio (eqb (p .«chroma_format») 1) 2 1 half whole,
+)
 
 -- the line lies an even number of luma rows above a CTB's bottom, and at most 4 (0: there is none)
 abbrev pub LineFits : ℕ → Type 0

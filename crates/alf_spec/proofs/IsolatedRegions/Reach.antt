@@ -34,5 +34,6 @@ reach-chroma _ half x p h k = omega arith
 abbrev pub SameReads : Layout → List ℕ → Plane → List ℕ → List ℕ → Type 0
 SameReads l region g plane plane′ =
     (x y : ℕ) → Inside l region g x y
-    → (p q : ℕ) → Reach (lumaPosition (g .columns) x) (lumaPosition (g .columns) p) → Reach (lumaPosition (g .rows) y) (lumaPosition (g .rows) q)
+    → (p q : ℕ) → Reach (lumaPosition (g .columns) x) (lumaPosition (g .columns) p)
+    → Reach (lumaPosition (g .rows) y) (lumaPosition (g .rows) q)
     → read l g x y plane p q ≡ read l g x y plane′ p q

@@ -9,7 +9,8 @@ use native.Mathlib.Omega.{arith}
 use Rattle.alf_spec.specs.Input.{Layout}
 use Rattle.alf_spec.specs.Geometry.{Side, before, after, Plane, planeOf, lumaPosition, ctbAt}
 use Rattle.alf_spec.specs.Boundary.{columnSide, columnDisabled, rowSide, rowDisabled, cornerDisabled}
-use Rattle.alf_spec.specs.Padding.{isNone, ctbEnd, pastCtb, columnClip, rowClip, clampedColumn, clampedRow, pastCorner, paddedColumn, paddedRow, read}
+use Rattle.alf_spec.specs.Padding.{isNone, ctbEnd, pastCtb, columnClip, rowClip, clampedColumn, clampedRow, pastCorner, paddedColumn}
+use Rattle.alf_spec.specs.Padding.{paddedRow, read}
 use Rattle.alf_spec.specs.Isolation.{isolated}
 use Rattle.alf_spec.proofs.Tests.{both, and-no}
 use Rattle.alf_spec.proofs.Accepted.{Accepted}
@@ -68,7 +69,8 @@ module _ (l : Layout) (ok : Accepted l) (region : List ℕ) (iso : isolated l re
   }
 
   module _ (x y p q : ℕ) (i : Inside l region g x y)
-      (rx : Reach (lumaPosition (g .columns) x) (lumaPosition (g .columns) p)) (ry : Reach (lumaPosition (g .rows) y) (lumaPosition (g .rows) q))
+      (rx : Reach (lumaPosition (g .columns) x) (lumaPosition (g .columns) p))
+      (ry : Reach (lumaPosition (g .rows) y) (lumaPosition (g .rows) q))
       (d e : Side) (tx : Toward d x p) (ty : Toward e y q) where
     abbrev X : ℕ
     X = lumaPosition (g .columns) x
@@ -130,13 +132,16 @@ module _ (l : Layout) (ok : Accepted l) (region : List ℕ) (iso : isolated l re
         and-no _ _ (and-no _ _ (and-no _ _ (and-no _ _ t (cx .1)) pastY) (ap isNone (cx .0))) noneY
 
     padded : (s t : Bool) → pastCorner l g x y p q before ≡ s → pastCorner l g x y p q after ≡ t
-        → Held l region (lumaPosition (g .columns) (cond s (ctbEnd (g .columns) before x) (cond t (ctbEnd (g .columns) after x) u))) (lumaPosition (g .rows) v)
+        → Held l region (lumaPosition (g .columns) (cond s (ctbEnd (g .columns) before x) (cond t (ctbEnd (g .columns) after x) u)))
+        (lumaPosition (g .rows) v)
     unfolding planeOf
     padded true t h k = moved before h
     padded false true h k = moved after k
-    padded false false h k = arrive l ok columnRatio rowRatio line region iso d e X Y _ _ (to-luma x y i) wayX wayY (uncornered (neither d h k))
+    padded false false h k = arrive l ok columnRatio rowRatio line region iso d e X Y _ _ (to-luma x y i) wayX wayY
+        (uncornered (neither d h k))
       where
-        neither : (f : Side) → pastCorner l g x y p q before ≡ false → pastCorner l g x y p q after ≡ false → pastCorner l g x y p q f ≡ false
+        neither : (f : Side) → pastCorner l g x y p q before ≡ false → pastCorner l g x y p q after ≡ false
+            → pastCorner l g x y p q f ≡ false
         neither before h k = h
         neither after h k = k
 
@@ -151,7 +156,8 @@ module _ (l : Layout) (ok : Accepted l) (region : List ℕ) (iso : isolated l re
   inside-read x y p q i rx ry =
       to-own (paddedColumn l g x y p q) (paddedRow l g x y p q)
       (by-cases (decLe p x)
-      (λ h. by-cases (decLe q y) (λ k. held-read x y p q i rx ry before before h k) (λ k. held-read x y p q i rx ry before after h (omega arith)))
+      (λ h. by-cases (decLe q y) (λ k. held-read x y p q i rx ry before before h k)
+      (λ k. held-read x y p q i rx ry before after h (omega arith)))
       (λ h. by-cases (decLe q y) (λ k. held-read x y p q i rx ry after before (omega arith) k)
       (λ k. held-read x y p q i rx ry after after (omega arith) (omega arith))))
 

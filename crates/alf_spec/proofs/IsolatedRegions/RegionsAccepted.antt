@@ -1,5 +1,5 @@
--- Where the layout is accepted, the isolation test accepts every region of whole CTBs: those of slices, tiles and subpictures are `regionOf` of
--- a test of their numbers. Assumes nothing.
+-- Where the layout is accepted, the isolation test accepts every region of whole CTBs: those of slices, tiles and subpictures are
+-- `regionOf` of a test of their numbers. Assumes nothing.
 use mathlib.Core.Path.{_≡_, refl}
 use mathlib.Core.Bool.{Bool, true, cond}
 use Prim.Native.Nat.{ℕ}

@@ -23,7 +23,8 @@ module _ (l : Layout) (region : List ℕ) (g : Plane) where
   index-inside k h q = record { column = column-below g k h; row = row-below g k h; position = q }
 
   module _ (i j : Input) (plane : Input → List ℕ) where
-    -- in two inputs, a filter's output planes are equal at index k: inside, they have the same flags or indices and the same filtered samples
+    -- in two inputs, a filter's output planes are equal at index k: inside, they have the same flags or indices and the same filtered
+    -- samples
     abbrev pub SameOutput : Type 0
     SameOutput =
         (on : Input → Ctb → Bool) → ((c : Ctb) → SameFilters i j c → on i c ≡ on j c)

@@ -19,7 +19,8 @@ use Rattle.alf_spec.specs.CrossComponent.{crossTaps, crossSum, corrected
 use Rattle.alf_spec.specs.Isolation.{inside}
 use Rattle.alf_spec.proofs.Lists.{tabulate-same, Each, map-same}
 use Rattle.alf_spec.proofs.IsolatedRegions.Inside.{Inside, SameInside, luma-inside}
-use Rattle.alf_spec.proofs.IsolatedRegions.TapPositions.{Around, here, luma-offsets, luma-taps, chroma-offsets, chroma-taps, cross-offsets, cross-taps}
+use Rattle.alf_spec.proofs.IsolatedRegions.TapPositions.{Around, here, luma-offsets, luma-taps, chroma-offsets, chroma-taps}
+use Rattle.alf_spec.proofs.IsolatedRegions.TapPositions.{cross-offsets, cross-taps}
 use Rattle.alf_spec.proofs.IsolatedRegions.Ratios.{chroma-ratios}
 use Rattle.alf_spec.proofs.IsolatedRegions.Reach.{Reach, reach-luma, reach-window, reach-chroma, SameReads}
 
@@ -28,7 +29,8 @@ use Rattle.alf_spec.proofs.IsolatedRegions.Reach.{Reach, reach-luma, re
 module _ (l : Layout) (region : List ℕ) (plane plane′ : List ℕ) where
   -- the reads up to n from a sample inside are the same in both planes
   abbrev ReadsAround : ℕ → Plane → Type 0
-  ReadsAround n g = (x y : ℕ) → Inside l region g x y → (p : ℕ × ℕ) → Around n x y p → read l g x y plane (p .0) (p .1) ≡ read l g x y plane′ (p .0) (p .1)
+  ReadsAround n g = (x y : ℕ) → Inside l region g x y → (p : ℕ × ℕ) → Around n x y p
+      → read l g x y plane (p .0) (p .1) ≡ read l g x y plane′ (p .0) (p .1)
 
   reads-around : (n : ℕ) (g : Plane)
       → ((x p : ℕ) → x ≤ p + n → p ≤ x + n → Reach (lumaPosition (g .columns) x) (lumaPosition (g .columns) p))
@@ -59,7 +61,8 @@ module _ (l : Layout) (region : List ℕ) (plane plane′ : List ℕ) where
       (reach-window y (y + k / 10 - 3) qy (omega arith) (omega arith))))
 
 -- the first sample of a sample's 4 by 4 block lies in the same 8 by 8 block
-block-inside : (l : Layout) (region : List ℕ) (x y : ℕ) → Inside l region (lumaPlane l) x y → Inside l region (lumaPlane l) (x / 4 * 4) (y / 4 * 4)
+block-inside : (l : Layout) (region : List ℕ) (x y : ℕ) → Inside l region (lumaPlane l) x y
+    → Inside l region (lumaPlane l) (x / 4 * 4) (y / 4 * 4)
 unfolding planeOf inside
 block-inside l region x y s =
     let column = s .column in
@@ -93,7 +96,8 @@ pub record SameFilters (i j : Input) (c : Ctb) : Type 0 where
   pub listed : elem (address (i .layout) c) (i .ctbList) ≡ elem (address (j .layout) c) (j .ctbList)
 
 -- two ways to read, the same at the positions P: the same filtered sample, by the same coefficients and clips
-module _ {P : ℕ × ℕ → Type 0} {value value′ : ℕ × ℕ → ℕ} (same : (p : ℕ × ℕ) → P p → value p ≡ value′ p) {middle : ℕ × ℕ} (m : P middle) (depth : ℕ) where
+module _ {P : ℕ × ℕ → Type 0} {value value′ : ℕ × ℕ → ℕ} (same : (p : ℕ × ℕ) → P p → value p ≡ value′ p) {middle : ℕ × ℕ} (m : P middle)
+    (depth : ℕ) where
   same-filtered : (shift n : ℕ) (plus minus : List (ℕ × ℕ)) → Each P plus × Each P minus
       → {f f′ c c′ : ℕ → ℤ} → ((j : ℕ) → f j ≡ f′ j) → ((j : ℕ) → c j ≡ c′ j)
       → filtered depth shift (value middle) (tapSum n (value middle) f c (map value plus) (map value minus))
@@ -104,8 +108,10 @@ module _ {P : ℕ × ℕ → Type 0} {value value′ : ℕ × ℕ → ℕ} (same
       (map-same P value value′ same plus (near .0) t) (map-same P value value′ same minus (near .1) t))
 
   same-corrected : (taps : List (ℕ × ℕ)) → Each P taps → {curr curr′ : ℕ} → curr ≡ curr′ → {f f′ : ℕ → ℤ} → ((j : ℕ) → f j ≡ f′ j)
-      → corrected depth curr (crossSum (value middle) f (map value taps)) ≡ corrected depth curr′ (crossSum (value′ middle) f′ (map value′ taps))
-  same-corrected taps near e ef = λ t. corrected depth (e t) (crossSum (same middle m t) (λ j. ef j t) (map-same P value value′ same taps near t))
+      → corrected depth curr (crossSum (value middle) f (map value taps)) ≡ corrected depth curr′
+      (crossSum (value′ middle) f′ (map value′ taps))
+  same-corrected taps near e ef = λ t. corrected depth (e t)
+      (crossSum (same middle m t) (λ j. ef j t) (map-same P value value′ same taps near t))
 
 module _ (l : Layout) (region : List ℕ) (i j : Input) where
   -- the luma filter is given the fixed tables as well

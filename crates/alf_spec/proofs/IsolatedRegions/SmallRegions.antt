@@ -8,9 +8,13 @@ use lib.ListN.{replicate, getD}
 use Rattle.alf_spec.specs.Input.{Layout}
 use Rattle.alf_spec.specs.Lists.{allBelow, everyFrom, elem, tabulate}
 use Rattle.alf_spec.specs.Geometry.{ctbSize, planeOf}
-use Rattle.alf_spec.specs.Boundary.{sliceOf, subpicOf, tileColumnOf, tileRowOf, tileDisables, sliceDisables, subpicDisables, stepCause, columnSide, rowSide}
-use Rattle.alf_spec.specs.Isolation.{openStep, columnStep, rowStep, diagonalStep, inside, staysInside, isolated, regionOf, subpicRegion}
-use Rattle.alf_spec.specs.Faults.{pictureSizeValid, ctbSizeValid, bitDepthValid, chromaFormatValid, layoutLengthsValid, virtualListValid, virtualBoundariesValid, followsAt, tileListValid, tilesValid, cornersValid, slicesValid, subpicturesValid, regionLengthValid, regionValid, unless, layoutFault, isolationFault}
+use Rattle.alf_spec.specs.Boundary.{sliceOf, subpicOf, tileColumnOf, tileRowOf, tileDisables, sliceDisables, subpicDisables}
+use Rattle.alf_spec.specs.Boundary.{stepCause, columnSide, rowSide}
+use Rattle.alf_spec.specs.Isolation.{openStep, columnStep, rowStep, diagonalStep, inside, staysInside, isolated, regionOf}
+use Rattle.alf_spec.specs.Isolation.{subpicRegion}
+use Rattle.alf_spec.specs.Faults.{pictureSizeValid, ctbSizeValid, bitDepthValid, chromaFormatValid, layoutLengthsValid}
+use Rattle.alf_spec.specs.Faults.{virtualListValid, virtualBoundariesValid, followsAt, tileListValid, tilesValid, cornersValid}
+use Rattle.alf_spec.specs.Faults.{slicesValid, subpicturesValid, regionLengthValid, regionValid, unless, layoutFault, isolationFault}
 use Rattle.alf_spec.proofs.Tests.{at-all}
 use Rattle.alf_spec.proofs.Examples.{picture, layout}
 
@@ -40,7 +44,8 @@ abbrev leftBlock : List ℕ
 leftBlock = 1 ∷ 0 ∷ []
 
 pub record SmallRegions : Type 0 where
-  -- 01: two subpictures side by side in one tile and slice, no virtual boundary, left switch off, right on: the left area is shut, the right is not
+  -- 01: two subpictures side by side in one tile and slice, no virtual boundary, left switch off, right on: the left area is shut, the
+  -- right is not
   pub left-accepted : isolationFault twoSubpictures (subpicRegion twoSubpictures 0) ≡ 0
   pub left : isolated twoSubpictures (subpicRegion twoSubpictures 0) ≡ true
   pub right-accepted : isolationFault twoSubpictures (subpicRegion twoSubpictures 1) ≡ 0
@@ -52,7 +57,10 @@ pub record SmallRegions : Type 0 where
   pub uncut : isolated (twoBlocks []) leftBlock ≡ false
 
 pub small-regions : SmallRegions
-unfolding allBelow everyFrom elem tabulate ctbSize planeOf sliceOf subpicOf tileColumnOf tileRowOf tileDisables sliceDisables subpicDisables stepCause columnSide rowSide openStep columnStep rowStep diagonalStep inside staysInside isolated regionOf subpicRegion pictureSizeValid ctbSizeValid bitDepthValid chromaFormatValid layoutLengthsValid virtualListValid virtualBoundariesValid followsAt tileListValid tilesValid cornersValid slicesValid subpicturesValid regionLengthValid regionValid unless layoutFault isolationFault
+unfolding allBelow everyFrom elem tabulate ctbSize planeOf sliceOf subpicOf tileColumnOf tileRowOf tileDisables sliceDisables subpicDisables
+    stepCause columnSide rowSide openStep columnStep rowStep diagonalStep inside staysInside isolated regionOf subpicRegion pictureSizeValid
+    ctbSizeValid bitDepthValid chromaFormatValid layoutLengthsValid virtualListValid virtualBoundariesValid followsAt tileListValid
+    tilesValid cornersValid slicesValid subpicturesValid regionLengthValid regionValid unless layoutFault isolationFault
 small-regions = record {
   left-accepted = refl;
   left = refl;

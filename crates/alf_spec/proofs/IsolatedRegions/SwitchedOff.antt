@@ -1,5 +1,5 @@
--- A slice, a tile or a subpicture is an isolated region whenever, respectively, the slice switch, the tile switch or that subpicture's switch is
--- off (01: its area "is shut whenever ..", with the corner rules of the slice and subpicture maps). Assumes nothing.
+-- A slice, a tile or a subpicture is an isolated region whenever, respectively, the slice switch, the tile switch or that subpicture's
+-- switch is off (01: its area "is shut whenever ..", with the corner rules of the slice and subpicture maps). Assumes nothing.
 use mathlib.Core.Path.{_≡_, refl, sym, ap, _∙_}
 use mathlib.Core.Bool.{Bool, true, false, not, _&&_}
 use Prim.Native.Nat.{ℕ}
@@ -9,7 +9,8 @@ use borrow.Author.Tests.{eqb-true}
 use Rattle.alf_spec.specs.declared.Ctb.{Ctb}
 use Rattle.alf_spec.specs.Lists.{every}
 use Rattle.alf_spec.specs.Input.{Layout}
-use Rattle.alf_spec.specs.Boundary.{sliceOf, subpicOf, tileColumnOf, tileRowOf, tileDisables, sliceDisables, subpicDisables, besideCtb}
+use Rattle.alf_spec.specs.Boundary.{sliceOf, subpicOf, tileColumnOf, tileRowOf, tileDisables, sliceDisables, subpicDisables}
+use Rattle.alf_spec.specs.Boundary.{besideCtb}
 use Rattle.alf_spec.specs.Isolation.{isolated, sliceRegion, tileRegion, subpicRegion}
 use Rattle.alf_spec.specs.Faults.{sliceCorner, subpicCorner, cornersValid, slicesValid, subpicturesValid}
 use Rattle.alf_spec.proofs.Tests.{both}
@@ -62,7 +63,10 @@ module _ (l : Layout) (ok : Accepted l) where
     unfolding tileColumnOf tileRowOf
     tile-kept = record {
       side = λ c m h p. let t = same-tile c m (not-disabled l c m h .0) in rw (t .0, t .1) at p;
-      corner = λ d e c h k slice p q r. simp (both (eqb (tileColumnOf l (besideCtb d c)) column) _ q .0, both (eqb (tileColumnOf l c) column) _ r .1);
+      corner = λ d e c h k slice p q r. simp (
+        both (eqb (tileColumnOf l (besideCtb d c)) column) _ q .0,
+        both (eqb (tileColumnOf l c) column) _ r .1,
+      );
     }
 
     pub tile-isolated : isolated l (tileRegion l column row) ≡ true
@@ -78,7 +82,8 @@ module _ (l : Layout) (ok : Accepted l) where
     unfolding subpicOf
     subpic-kept = record {
       side = λ c m h. same-subpic c m (not-disabled l c m h .2);
-      corner = λ d e c h k slice p q r. subpic-corner d e n _ (three-alike subpicCorner l (l .subpicMap) subpic-corners n d e (c .column) (c .row) h k p q r);
+      corner = λ d e c h k slice p q r. subpic-corner d e n _ (three-alike subpicCorner l (l .subpicMap) subpic-corners n d e (c .column)
+          (c .row) h k p q r);
     }
 
     pub subpicture-isolated : isolated l (subpicRegion l n) ≡ true

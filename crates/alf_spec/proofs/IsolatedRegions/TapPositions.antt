@@ -42,7 +42,8 @@ chroma-offsets line d =
     cond-either ChromaOffsets (line && _) _ _ (omega arith)
     (cond-either ChromaOffsets (line && _) _ _ (omega arith) (omega arith))
 
-pub chroma-taps : (x y : ℕ) (r : ChromaRows) → ChromaOffsets r → Each (Around 2 x y) (chromaPlus x y r) × Each (Around 2 x y) (chromaMinus x y r)
+pub chroma-taps : (x y : ℕ) (r : ChromaRows) → ChromaOffsets r → Each (Around 2 x y) (chromaPlus x y r)
+    × Each (Around 2 x y) (chromaMinus x y r)
 unfolding chromaPlus chromaMinus distance
 chroma-taps x y r h = (omega arith, omega arith)
 

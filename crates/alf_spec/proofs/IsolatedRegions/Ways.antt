@@ -1,4 +1,5 @@
--- The way along one axis from a position to the one that is read for its neighbour: within a cell, or over one side of the CTB. Assumes nothing.
+-- The way along one axis from a position to the one that is read for its neighbour: within a cell, or over one side of the CTB. Assumes
+-- nothing.
 use mathlib.Core.Path.{_≡_, refl, sym, ap, _∙_}
 use mathlib.Core.Logic.{_≢_, by-cases}
 use mathlib.Core.Bool.{Bool, true, false}
@@ -21,7 +22,8 @@ record Split (a : Axis) (u v e : ℕ) : Type 0 where
   first : ctbStart a v ≡ suc e
 
 module _ (a : Axis) (ok : Regular a) where
-  split : (u v e : ℕ) → suc e ≡ ctbStart a u + a .ctb → u ≤ v → v ≤ u + 7 → v < a .size → Clear a u v → u / a .ctb ≢ v / a .ctb → Split a u v e
+  split : (u v e : ℕ) → suc e ≡ ctbStart a u + a .ctb → u ≤ v → v ≤ u + 7 → v < a .size → Clear a u v
+      → u / a .ctb ≢ v / a .ctb → Split a u v e
   split u v e q le short inV clear ne =
       let lo = lower a u in
       let hi = upper a ok u in
@@ -77,7 +79,8 @@ module _ (a : Axis) (ok : Regular a) (disabled : Side → Bool) where
   cross : (d : Side) (x u : ℕ) → x < a .size → Guarded a disabled d x u → x / a .ctb ≢ u / a .ctb → Way a disabled d x u
   cross before x u inX p ne =
       let e = pred (ctbStart a u + a .ctb) in
-      let s = split a ok u x e (omega (arith, ok .big)) (p .toward) (p .low) inX (λ b w. (p .clear b w .1, p .clear b w .0)) (λ q. ne (sym q)) in
+      let s = split a ok u x e (omega (arith, ok .big)) (p .toward) (p .low) inX (λ b w. (p .clear b w .1, p .clear b w .0))
+      (λ q. ne (sym q)) in
       over (suc e) (record {
         atEnd = s .first;
         inner = cell-sym (s .right);

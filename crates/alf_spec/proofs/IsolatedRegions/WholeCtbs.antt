@@ -10,8 +10,10 @@ use lib.Dec.{eqb}
 use borrow.Author.Tests.{ne-eqb, not-true}
 use Rattle.alf_spec.specs.declared.Ctb.{Ctb}
 use Rattle.alf_spec.specs.Input.{Layout}
-use Rattle.alf_spec.specs.Geometry.{Side, sameSide, next, gap, hasNext, Axis, planeOf, lumaPlane, blockPlane, lumaPosition, ctbCount, ctbAt, ctbColumns, ctbRows}
-use Rattle.alf_spec.specs.Boundary.{disables, sliceDisables, stepCause, besideCtb, stackedCtb, columnSide, columnDisabled, rowSide, rowDisabled}
+use Rattle.alf_spec.specs.Geometry.{Side, sameSide, next, gap, hasNext, Axis, planeOf, lumaPlane, blockPlane, lumaPosition, ctbCount}
+use Rattle.alf_spec.specs.Geometry.{ctbAt, ctbColumns, ctbRows}
+use Rattle.alf_spec.specs.Boundary.{disables, sliceDisables, stepCause, besideCtb, stackedCtb, columnSide, columnDisabled, rowSide}
+use Rattle.alf_spec.specs.Boundary.{rowDisabled}
 use Rattle.alf_spec.specs.Isolation.{openStep, columnStep, rowStep, diagonalStep, inside, staysInside, isolated, regionOf}
 use Rattle.alf_spec.proofs.Tests.{both, imply, at-all}
 use Rattle.alf_spec.proofs.Lists.{tabulate-at}
@@ -75,8 +77,8 @@ module _ (l : Layout) (ok : Accepted l) (P : Ctb → Bool) where
 abbrev pub cornerCtb : Side → Side → Ctb → Ctb
 cornerCtb d e c = record { column = next d (c .column); row = next e (c .row) }
 
--- the CTBs that pass the test are not left over a side that is not disabled and, where the CTBs beside and above or below also pass, not over
--- the corner between those two
+-- the CTBs that pass the test are not left over a side that is not disabled and, where the CTBs beside and above or below also pass, not
+-- over the corner between those two
 pub record Kept (l : Layout) (P : Ctb → Bool) : Type 0 where
   pub side : (c n : Ctb) → disables (stepCause l c n) ≡ false → P c ≡ true → P n ≡ true
   pub corner : (d e : Side) (c : Ctb) → hasNext (ctbColumns l) d (c .column) ≡ true → hasNext (ctbRows l) e (c .row) ≡ true
@@ -95,7 +97,8 @@ module _ (l : Layout) (P : Ctb → Bool) (kept : Kept l P) (c : Ctb) (here : P c
   stacked e _ (crosses h off) = kept .side c (stackedCtb e c) (simp h at off) here
 
   -- only where both parts of a diagonal step cross a side does it cross a corner
-  diagonal : (d e : Side) (q r : ℕ) → Move (ctbColumns l) (columnDisabled l c) d (c .column) q → Move (ctbRows l) (rowDisabled l c) e (c .row) r
+  diagonal : (d e : Side) (q r : ℕ) → Move (ctbColumns l) (columnDisabled l c) d (c .column) q
+      → Move (ctbRows l) (rowDisabled l c) e (c .row) r
       → (sameSide d e && sliceDisables l c (record { column = q; row = r })) ≡ false → P (record { column = q; row = r }) ≡ true
   diagonal d e _ r stays n slice = stacked e r n
   diagonal d e q _ (crosses h off) stays slice = beside d q (crosses h off)
@@ -108,7 +111,8 @@ module _ (l : Layout) (ok : Accepted l) (P : Ctb → Bool) (kept : Kept l P) whe
     own = ctbAt (lumaPlane l) x y
 
     column-move : (d : Side) → columnStep l x y d ≡ true
-        → (next d x < l .picture .width) × Move (ctbColumns l) (columnDisabled l own) d (own .column) (ctbAt (lumaPlane l) (next d x) y .column)
+        → (next d x < l .picture .width) × Move (ctbColumns l) (columnDisabled l own) d (own .column)
+        (ctbAt (lumaPlane l) (next d x) y .column)
     unfolding planeOf columnStep
     column-move d = open-move (lumaPlane l .columns) (regular-columns l ok 1 1 4) refl (columnDisabled l own) d x
 

@@ -35,7 +35,8 @@ clip-fits : (s : tie.Start) → SFits w16 (clip s)
 clip-fits s = fits-abs (omega (arith, clip-range s .small))
 
 abbrev added : tie.Start → ℤ
-added s = let a = s .args in tap (a .curr) (coeff s) (clip s) (getD (now (a .copy)) (a .plus + a .x + a .i) 0) (getD (now (a .copy)) (a .minus + a .x + a .j) 0)
+added s = let a = s .args in tap (a .curr) (coeff s) (clip s) (getD (now (a .copy)) (a .plus + a .x + a .i) 0)
+    (getD (now (a .copy)) (a .minus + a .x + a .j) 0)
 
 total-fits : (s : tie.Start) → SFits w32 (s .args .sum +ℤ added s)
 total-fits s =
@@ -62,8 +63,10 @@ pub add-tap-spec : {M : Type 1} → statement M
 add-tap-spec =
     tie.close
     (tie.spec
-    (λ c. search needs) (λ c. search needs) (λ c. search needs) (λ c. search needs) (λ c. search needs) (λ c. search needs) (λ c. search needs)
-    (λ c. search needs) (λ c. search needs) (λ c. search needs) (λ c. search needs) (λ c. search needs) (λ c. search needs) (λ c. search needs)
+    (λ c. search needs) (λ c. search needs) (λ c. search needs) (λ c. search needs) (λ c. search needs) (λ c. search needs)
+    (λ c. search needs)
+    (λ c. search needs) (λ c. search needs) (λ c. search needs) (λ c. search needs) (λ c. search needs) (λ c. search needs)
+    (λ c. search needs)
     (λ c. search needs)
     tap-requires
     add-result

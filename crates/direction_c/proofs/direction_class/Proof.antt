@@ -27,5 +27,6 @@ direction-class-spec =
     (λ c. search (needs, number-small (c .before)))
     (λ c. search (needs, number-small (c .before .before)))
     (λ c. search (needs, number-small (c .before .before)))
-    (λ c. let k = c .before .before in rw (tested (k .before .before) true (k .before .if1 .taken)) (ap classNumber (k .class-of-sums .ensures)))
+    (λ c. let k = c .before .before in rw (tested (k .before .before) true (k .before .if1 .taken))
+    (ap classNumber (k .class-of-sums .ensures)))
     (λ c. rw (tested (c .before) false (c .if1 .left))))

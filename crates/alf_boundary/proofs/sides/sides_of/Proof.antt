@@ -70,7 +70,8 @@ returns c columns rows =
       top = row-side l g h n o before (near3 .neighbour-at3 .ensures) hasAbove y (side3 .side-cause3 .ensures);
       bottom = row-side l g h n o after (near4 .neighbour-at4 .ensures) hasBelow (add-one _) (side4 .side-cause4 .ensures);
       upperLeft = corner l g h n o before (near5 .neighbour-at5 .ensures) hasLeft x hasAbove y (corner1 .corner-disabled .ensures);
-      lowerRight = corner l g h n o after (known .neighbour-at6 .ensures) hasRight (add-one _) hasBelow (add-one _) (c .corner-disabled2 .ensures);
+      lowerRight = corner l g h n o after (known .neighbour-at6 .ensures) hasRight (add-one _) hasBelow (add-one _)
+          (c .corner-disabled2 .ensures);
     }
 
 pub sides-of-spec : {M : Type 1} → statement M

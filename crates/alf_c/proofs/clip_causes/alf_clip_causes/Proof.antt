@@ -9,21 +9,24 @@ returns : tie.Need-returns
 returns c =
     let short = c .before .before in
     let said = short .before .clip-causes in
-    no-room (said .result) _ _ _ _ (said .ensures .0) (said .ensures .1) _ (ne-eqb _ 4 (short .if1 .taken)) (c .before .causes-number .ensures)
+    no-room (said .result) _ _ _ _ (said .ensures .0) (said .ensures .1) _ (ne-eqb _ 4 (short .if1 .taken))
+    (c .before .causes-number .ensures)
     (c .without-room .ensures)
 
 returns-2 : tie.Need-returns-2
 returns-2 c =
     let fits = c .before .before .before .before .before .before .before in
     let said = fits .before .clip-causes in
-    named (said .result) _ _ _ _ (said .ensures .0) (said .ensures .1) _ (eq-eqb _ 4 (fits .if1 .left)) (c .before .before .before .before .before .answer .given .1)
+    named (said .result) _ _ _ _ (said .ensures .0) (said .ensures .1) _ (eq-eqb _ 4 (fits .if1 .left))
+    (c .before .before .before .before .before .answer .given .1)
     (c .before .before .write-causes .ensures)
 
 returns-3 : tie.Need-returns-3
 returns-3 c =
     let fits = c .before .before .before .before in
     let said = fits .before .clip-causes in
-    refused (said .result) _ _ _ _ (said .ensures .0) (said .ensures .1) _ (eq-eqb _ 4 (fits .if1 .left)) (c .before .before .answer2 .given .1)
+    refused (said .result) _ _ _ _ (said .ensures .0) (said .ensures .1) _ (eq-eqb _ 4 (fits .if1 .left))
+    (c .before .before .answer2 .given .1)
     (c .fault-number .ensures)
 
 pub alf-clip-causes-spec : {M : Type 1} → statement M

@@ -26,4 +26,5 @@ write-causes-spec =
     let top = bottom .before in
     let fits = top .before in
     four-written (fits .before .before .args .causes .now) (fits .if1 .left)
-    (λ t. top .cause-number .ensures t ∷ bottom .cause-number2 .ensures t ∷ left .cause-number3 .ensures t ∷ c .cause-number4 .ensures t ∷ [])))
+    (λ t. top .cause-number .ensures t ∷ bottom .cause-number2 .ensures t ∷ left .cause-number3 .ensures t
+    ∷ c .cause-number4 .ensures t ∷ [])))

@@ -1,4 +1,5 @@
--- `alf_c::cross_component::alf_cross_component` meets its contract: it is that of the operation, by the number of its answer. Assumes nothing.
+-- `alf_c::cross_component::alf_cross_component` meets its contract: it is that of the operation, by the number of its answer. Assumes
+-- nothing.
 use mathlib.Core.Path.{_∙_}
 use borrow.Author.Needs.{needs}
 use Rattle.alf_c.proofs.cross_component.alf_cross_component.Statement.{statement}

@@ -5,13 +5,16 @@ use Rattle.alf_c.proofs.isolated.alf_isolated.Statement.{statement}
 use Rattle.alf_c.proofs.isolated.alf_isolated.Tie as tie
 
 returns : tie.Need-returns
-returns c = let said = c .before .before .isolated in says-so (said .result) _ (said .ensures .0) (said .ensures .1) (c .enum-told .given .1) _
+returns c = let said = c .before .before .isolated in says-so (said .result) _ (said .ensures .0) (said .ensures .1)
+    (c .enum-told .given .1) _
 
 returns-2 : tie.Need-returns-2
-returns-2 c = let said = c .before .before .isolated in says-not (said .result) _ (said .ensures .0) (said .ensures .1) (c .enum-told2 .given .1) _
+returns-2 c = let said = c .before .before .isolated in says-not (said .result) _ (said .ensures .0) (said .ensures .1)
+    (c .enum-told2 .given .1) _
 
 returns-3 : tie.Need-returns-3
-returns-3 c = let said = c .before .before .before .before .isolated in says-why (said .result) _ (said .ensures .0) (said .ensures .1) (c .before .before .answer .given .1) (c .fault-number .ensures) _
+returns-3 c = let said = c .before .before .before .before .isolated in says-why (said .result) _ (said .ensures .0) (said .ensures .1)
+    (c .before .before .answer .given .1) (c .fault-number .ensures) _
 
 pub alf-isolated-spec : {M : Type 1} → statement M
 alf-isolated-spec =

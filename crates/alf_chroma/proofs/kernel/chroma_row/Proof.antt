@@ -33,7 +33,8 @@ loop-again c =
     let here : l .x ≡ a .from + l .x - a .from = omega arith in (
       omega arith,
       paint-set _ _ (l .inv .1) (omega arith) (c .chroma-at .ensures
-          ∙ ap (copySample (a .copy .now) (a .m2) (a .m1) (a .z) (a .p1) (a .p2) (a .taps .now) (a .shift) (a .depth)) here) (λ k h. run-more _ _ k),
+          ∙ ap (copySample (a .copy .now) (a .m2) (a .m1) (a .z) (a .p1) (a .p2) (a .taps .now) (a .shift) (a .depth)) here)
+          (λ k h. run-more _ _ k),
     )
 
 pub chroma-row-spec : {M : Type 1} → statement M

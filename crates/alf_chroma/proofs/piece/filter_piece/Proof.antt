@@ -66,7 +66,8 @@ returns c =
           let wide = columns-wide (i .layout) (of .picture) (f .before .before .before .sub-width .ensures .0) in
           let S = rw (c .before .before .before .before .before .before .before .before .before .extent .ensures) at (spread .0) in
           paint-is (paint-same (paint-of (c .before .before .filter-rows .ensures)) (λ k h. refl)
-          (λ k h. sample-same i of across down _ _ wide (rw (← plane) at (f .copy-piece .ensures)) (room f) component (start f .pre .0 .grid) filter S k)),
+          (λ k h. sample-same i of across down _ _ wide (rw (← plane) at (f .copy-piece .ensures)) (room f) component
+          (start f .pre .0 .grid) filter S k)),
       spread .1,
     )
 

@@ -18,7 +18,8 @@ use Rattle.alf_chroma.proofs.piece.filter_rows.Lts as lts
 abbrev Inv-loop : tie.InvT-loop
 Inv-loop picture grid columns rows copy taps output₀ n depth width ratio y₀ output y =
     (rows .start ≤ y) × (y ≤ rows .end) × Begun picture grid columns rows copy taps (length output₀) n width ratio
-    × Paint output₀ (inRect width (columns .start) (columns .start + n) (rows .start) y) (copyChromaAt picture (grid .ctb) copy taps columns rows) output
+    × Paint output₀ (inRect width (columns .start) (columns .start + n) (rows .start) y)
+    (copyChromaAt picture (grid .ctb) copy taps columns rows) output
 
 abbrev μ-loop : tie.MeasureT-loop
 μ-loop picture grid columns rows copy taps output₀ n depth width ratio y₀ output y = rows .end - y

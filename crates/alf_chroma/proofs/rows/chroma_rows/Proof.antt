@@ -1,4 +1,5 @@
--- `alf_chroma::rows::chroma_rows` meets its contract: 2 and 3 are a range to the machine, so that arm and the rest go by orders. Assumes nothing.
+-- `alf_chroma::rows::chroma_rows` meets its contract: 2 and 3 are a range to the machine, so that arm and the rest go by orders. Assumes
+-- nothing.
 use mathlib.Core.Path.{_≡_, _∙_}
 use mathlib.Core.Bool.{true}
 use mathlib.Core.Logic.{_⊎_, inl, inr, ⊎-elim, _≢_}
@@ -38,14 +39,16 @@ returns-2 : tie.Need-returns-2
 returns-2 c =
     let e = c .before .before in
     let m = e .before in
-    c .entry2 .ensures ∙ rw (m .before .if1 .taken) (at-line _ (λ o. m .match .rest .1 (inl o)) (e .if2 .left) (c .before .if3 .taken) (ℕ-discrete _ 2))
+    c .entry2 .ensures ∙ rw (m .before .if1 .taken) (at-line _ (λ o. m .match .rest .1 (inl o)) (e .if2 .left) (c .before .if3 .taken)
+    (ℕ-discrete _ 2))
 
 returns-3 : tie.Need-returns-3
 returns-3 c =
     let m = c .before .before in
     let d = m .before .before .args .distance in
     let off : d ≢ 4 = λ e. m .match .rest .1 (inr e) in
-    c .entry3 .ensures ∙ rw (m .before .if1 .taken) (⊎-elim (λ w. far d (omega arith)) (λ w. far d (omega (arith, w .1 .left))) (c .before .if2 .came))
+    c .entry3 .ensures ∙ rw (m .before .if1 .taken) (⊎-elim (λ w. far d (omega arith)) (λ w. far d (omega (arith, w .1 .left)))
+    (c .before .if2 .came))
 
 returns-4 : tie.Need-returns-4
 unfolding chromaRows
@@ -54,4 +57,5 @@ returns-4 c = c .entry4 .ensures ∙ rw (c .before .if1 .left)
 pub chroma-rows-spec : {M : Type 1} → statement M
 chroma-rows-spec =
     tie.close
-    (tie.spec (λ c κs. search needs) (λ c κs. search needs) (λ c κs. search needs) (λ c κs. search needs) returns returns-2 returns-3 returns-4)
+    (tie.spec (λ c κs. search needs) (λ c κs. search needs) (λ c κs. search needs)
+    (λ c κs. search needs) returns returns-2 returns-3 returns-4)

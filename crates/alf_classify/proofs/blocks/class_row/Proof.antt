@@ -34,8 +34,8 @@ returns c =
     ap (λ (z : Sums). classNumber (classOfSums (a .depth) (a .window .factor) z))
     (sums-of-block _ _ _ (4 * a .count + 3) (4 * (k - a .at)) (omega arith) (a .from) (omega arith) v h d0 d1)))
 
--- of a row of blocks: its columns have room in a list of sums, and since the differences of the last direction stand in their list, so do those of
--- the other three
+-- of a row of blocks: its columns have room in a list of sums, and since the differences of the last direction stand in their list, so do
+-- those of the other three
 row-fits : (count from reach n : ℕ) → count ≤ 32 → 3 * area + from + (4 * count + 3) + reach ≤ n
     → (4 * count + 3 ≤ 131) × (from + (4 * count + 3) + reach ≤ n) × (area + from + (4 * count + 3) + reach ≤ n)
     × (2 * area + from + (4 * count + 3) + reach ≤ n)
@@ -76,7 +76,8 @@ class-row-spec =
     let p = c .before .before .before .before .before .before .before .before .before .before .before .before .before .pre in
     let f = row-fits _ _ _ _ (p .0) (p .8) in
     (p .2, p .3, p .1, f .0, p .8, p .9 .3))
-    (λ c. sym (paint-of (c .before .before .before .before .before .before .before .before .before .before .before .column-sums .ensures) .len))
+    (λ c. sym (paint-of (c .before .before .before .before .before .before .before .before .before .before .before .column-sums
+    .ensures) .len))
     (λ c. sym (paint-of (c .before .before .before .before .before .before .before .before .before .column-sums2 .ensures) .len))
     (λ c. sym (paint-of (c .before .before .before .before .before .before .before .column-sums3 .ensures) .len))
     (λ c. sym (paint-of (c .before .before .before .before .before .column-sums4 .ensures) .len))

@@ -26,7 +26,8 @@ loop-again c =
     let here : 4 * l .m ≡ 4 * (a .at + l .m - a .at) = omega arith in (
       omega arith,
       paint-set _ _ (l .inv .1) (omega arith) (c .block-class .ensures
-          ∙ ap (λ (k : ℕ). classNumber (classOfSums (a .depth) (a .factor) (columnSums (a .v .now) (a .h .now) (a .d0 .now) (a .d1 .now) k))) here)
+          ∙ ap (λ (k : ℕ). classNumber (classOfSums (a .depth) (a .factor)
+          (columnSums (a .v .now) (a .h .now) (a .d0 .now) (a .d1 .now) k))) here)
           (λ k h. run-more _ _ k),
     )
 

@@ -23,7 +23,8 @@ abbrev Inv-loop : tie.InvT-loop
 Inv-loop picture grid rows copy differences map₀ map-columns left top width pitch n count depth end row₀ map row =
     (row ≤ extent rows / 4) × (left + count ≤ map-columns) × Prepared rows copy differences pitch count × (length map ≡ length map₀)
     × ((columns : Piece) → pitchOf columns ≡ pitch
-    → Paint map₀ (inRect map-columns left (left + count) top (top + row)) (copyClassAt picture (grid .ctb) copy columns rows map-columns left top) map)
+    → Paint map₀ (inRect map-columns left (left + count) top (top + row))
+    (copyClassAt picture (grid .ctb) copy columns rows map-columns left top) map)
 
 abbrev μ-loop : tie.MeasureT-loop
 μ-loop picture grid rows copy differences map₀ map-columns left top width pitch n count depth end row₀ map row = end - row
@@ -78,7 +79,14 @@ row-inside : (c : tie.In-loop Inv-loop μ-loop) → let row = c .before .loop .r
 row-inside c =
     let s = begin c in
     let N = s .pre .2 .numbers in
-    omega (arith, c .loop-test .taken, N .high, N .inside, blocks (s .pre .2) .few, height-bounds _ (s .pre .0 .sizes) (s .pre .0 .ctbSize) .1)
+    omega (
+      arith,
+      c .loop-test .taken,
+      N .high,
+      N .inside,
+      blocks (s .pre .2) .few,
+      height-bounds _ (s .pre .0 .sizes) (s .pre .0 .ctbSize) .1,
+    )
 
 window-bounds : (c : tie.After-row-window Inv-loop μ-loop) → RowBounds (c .row-window .result)
 window-bounds c = rw (c .row-window .ensures) (row-bounds _ _ _)

@@ -21,7 +21,8 @@ abbrev μ-loop : tie.MeasureT-loop
 
 -- what is read stands as it was
 unwritten : (c : tie.After-pair Inv-loop μ-loop)
-    → let l = c .before .before .before .loop in getD (l .sums) (l .x) 0 ≡ getD (c .before .before .before .before .before .before .args .sums .now) (l .x) 0
+    → let l = c .before .before .before .loop in
+    getD (l .sums) (l .x) 0 ≡ getD (c .before .before .before .before .before .before .args .sums .now) (l .x) 0
 unwritten c =
     let l = c .before .before .before .loop in
     paint-out (l .inv .1) (l .x) (omega arith) (never _ (λ t. let f = run-facts 0 (l .x) (l .x) t in omega arith))
@@ -33,8 +34,11 @@ add-sums c =
 
 loop-again : tie.Need-loop-again Inv-loop μ-loop
 loop-again c =
-    let l = c .before .before .before .loop in
-    (omega arith, paint-set _ _ (l .inv .1) (omega arith) (ap₂ (λ (a b : ℕ). a + b) (unwritten c) (c .pair .ensures .0)) (λ k h. run-next _ k))
+    let l = c .before .before .before .loop in (
+      omega arith,
+      paint-set _ _ (l .inv .1) (omega arith) (ap₂ (λ (a b : ℕ). a + b) (unwritten c) (c .pair .ensures .0))
+          (λ k h. run-next _ k),
+    )
 
 pub add-pair-spec : {M : Type 1} → statement M
 add-pair-spec =

@@ -42,7 +42,8 @@ returns c =
     let three = c .before .before .before .before .before .before .before in
     let s = three .before .before .before .before in
     rw (c .before .before .before .before .if1 .taken)
-    (paint-is (four-pairs _ _ _ (s .args .n) (s .pre .3) (paint-of (three .sum-three-pairs .ensures)) (paint-of (c .before .before .add-pair .ensures))))
+    (paint-is (four-pairs _ _ _ (s .args .n) (s .pre .3) (paint-of (three .sum-three-pairs .ensures))
+    (paint-of (c .before .before .add-pair .ensures))))
 
 returns-2 : tie.Need-returns-2
 returns-2 c =

@@ -7,7 +7,8 @@ use borrow.Author.Needs.{needs}
 use Rattle.alf_classify.proofs.sums.pair.Statement.{statement}
 use Rattle.alf_classify.proofs.sums.pair.Tie as tie
 
-entries : (s : tie.Start) → (getD (s .args .d .now) (s .args .k) 0 ≤ 8190) × (getD (s .args .d .now) (s .args .k + (s .args .pitch + 1)) 0 ≤ 8190)
+entries : (s : tie.Start) → (getD (s .args .d .now) (s .args .k) 0 ≤ 8190)
+    × (getD (s .args .d .now) (s .args .k + (s .args .pitch + 1)) 0 ≤ 8190)
 entries s = (s .pre .1 (s .args .k) (omega arith) (omega arith), s .pre .1 (s .args .k + (s .args .pitch + 1)) (omega arith) (omega arith))
 
 pub pair-spec : {M : Type 1} → statement M

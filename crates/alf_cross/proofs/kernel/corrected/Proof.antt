@@ -1,4 +1,5 @@
--- `alf_cross::kernel::corrected` meets its contract: the rounded sum, the clipped change and the sample moved by it fit 16 bits. Assumes nothing.
+-- `alf_cross::kernel::corrected` meets its contract: the rounded sum, the clipped change and the sample moved by it fit 16 bits. Assumes
+-- nothing.
 use mathlib.Core.Path.{_≡_}
 use Prim.Native.Nat.{_-_, _*_, _^_, _≤_}
 use native.Mathlib.Omega.{arith}

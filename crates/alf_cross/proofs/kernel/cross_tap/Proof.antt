@@ -1,5 +1,5 @@
--- `alf_cross::kernel::cross_tap` meets its contract: a difference of samples fits 16 bits, and its product with a coefficient is small. Assumes
--- nothing.
+-- `alf_cross::kernel::cross_tap` meets its contract: a difference of samples fits 16 bits, and its product with a coefficient is small.
+-- Assumes nothing.
 use mathlib.Core.Path.{_≡_, refl}
 use Prim.Native.Nat.{_+_, _*_, _≤_}
 use native.Mathlib.Nat.{mul-le-mul}

@@ -7,7 +7,8 @@ use Rattle.alf_cross.proofs.piece.chroma_place.Statement.{statement}
 use Rattle.alf_cross.proofs.piece.chroma_place.Tie as tie
 
 -- the quotients are no larger than what is divided
-small : (s : tie.Start) → let a = s .args in (a .width / a .step ≤ 4096) × (a .x / a .step ≤ 4096) × (a .v * (a .width / a .step) ≤ 4096 * 4096)
+small : (s : tie.Start) → let a = s .args in (a .width / a .step ≤ 4096) × (a .x / a .step ≤ 4096)
+    × (a .v * (a .width / a .step) ≤ 4096 * 4096)
 small s =
     let a = s .args in
     let wide : a .width / a .step ≤ 4096 = le-trans (div-le-self (a .width) (a .step)) (s .pre .0) in

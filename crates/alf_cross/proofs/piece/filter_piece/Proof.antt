@@ -60,7 +60,11 @@ piece-rows-requires c κs =
       s .pre .1,
       s .pre .2,
       split-small half (omega arith) (even s) split
-          (record { room = rw (paint-of copies .len) (room s .0); small = copy-small _ _ _ _ _ _ _ copies (room s .0) 4096 (s .pre .0 .lumaSamples) })
+          (record {
+            room = rw (paint-of copies .len) (room s .0);
+            small =
+                copy-small _ _ _ _ _ _ _ copies (room s .0) 4096 (s .pre .0 .lumaSamples);
+          })
           (omega (arith, room s .1, c .before .before .before .split .given)),
     )
 
@@ -72,7 +76,11 @@ piece-rows-requires-2 c κs =
       s .pre .0 .work,
       s .pre .1,
       s .pre .2,
-      record { room = rw (paint-of copies .len) (room s .0); small = copy-small _ _ _ _ _ _ _ copies (room s .0) 4096 (s .pre .0 .lumaSamples) },
+      record {
+        room = rw (paint-of copies .len) (room s .0);
+        small =
+            copy-small _ _ _ _ _ _ _ copies (room s .0) 4096 (s .pre .0 .lumaSamples);
+      },
     )
 
 returns : tie.Need-returns
@@ -83,7 +91,8 @@ returns c =
     let e1 : tie.After-extent = search needs in
     let e2 : tie.After-extent2 = search needs in
     let step : tie.After-sub-width = search needs in
-    let split = rw (e1 .extent .ensures, e2 .extent2 .ensures, ← e1 .before .before .if1 .taken, step .sub-width .ensures .0) at (done .split-rows .ensures) in
+    let split = rw (e1 .extent .ensures, e2 .extent2 .ensures, ← e1 .before .before .if1 .taken, step .sub-width .ensures .0) at
+    (done .split-rows .ensures) in
     λ i ctb component of luma chroma filter across down.
     paint-is (paint-same (paint-of (c .before .before .piece-rows .ensures)) (λ k h. refl)
     (λ k h. sample-same of (s .pre .0 .work .grid) filter across down luma chroma _ _ _ (f .copy-piece .ensures) (room s .0) split k))
@@ -97,7 +106,8 @@ returns-2 c =
     λ i ctb component of luma chroma filter across down.
     paint-is (paint-same (paint-of (done .piece-rows2 .ensures)) (λ k h. refl)
     (λ k h. sample-same of (s .pre .0 .work .grid) filter across down luma chroma _ _ _ (f .copy-piece .ensures) (room s .0)
-    (unsplit _ _ _ _ (λ (e : subWidth (s .args .picture) ≡ 2). done .before .before .before .if1 .left (step .sub-width .ensures .0 ∙ e))) k))
+    (unsplit _ _ _ _ (λ (e : subWidth (s .args .picture) ≡ 2). done .before .before .before .if1 .left
+    (step .sub-width .ensures .0 ∙ e))) k))
 
 pub filter-piece-spec : {M : Type 1} → statement M
 filter-piece-spec =

@@ -37,11 +37,16 @@ down s = own (subHeight (s .args .picture)) (chroma-ratios (s .args .picture) .1
 loop-holds : tie.Need-loop-holds Inv-loop μ-loop
 loop-holds c =
     let s = c .before .before .before .before .before .before in
-    rw (c .before .before .sub-height .ensures .0) (le-refl _, omega (arith, down s .last), paint-none (λ k. rect-none _ _ _ _ _ k (inr (le-refl _))))
+    rw (c .before .before .sub-height .ensures .0) (
+      le-refl _,
+      omega (arith, down s .last),
+      paint-none (λ k. rect-none _ _ _ _ _ k (inr (le-refl _))),
+    )
 
 -- the loop's test
 below : (c : tie.In-loop Inv-loop μ-loop)
-    → let a = c .before .before .before .before .before .before .before .before .args in c .before .loop .v < a .rows .end / subHeight (a .picture)
+    → let a = c .before .before .before .before .before .before .before .before .args in
+    c .before .loop .v < a .rows .end / subHeight (a .picture)
 below c = rw (c .before .before .before .before .sub-height .ensures .0) at (c .loop-test .taken)
 
 piece-row-requires : tie.Need-piece-row-requires Inv-loop μ-loop

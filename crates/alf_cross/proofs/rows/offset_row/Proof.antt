@@ -54,7 +54,8 @@ returns c =
     c .before .before .cross-row .ensures
     ∙ (λ t.
     painted (a .output .now) (between (a .from) (a .n))
-    (rowSample (a .split .now) (first .row-place .ensures t) (second .row-place2 .ensures t) (third .row-place3 .ensures t) (last .row-place4 .ensures t)
+    (rowSample (a .split .now) (first .row-place .ensures t) (second .row-place2 .ensures t) (third .row-place3 .ensures t)
+    (last .row-place4 .ensures t)
     (left .column-place .ensures t) (own .column-place2 .ensures t) (right .column-place3 .ensures t) (taps-back (small s) t) (a .depth)
     (a .chroma .now) (a .from)))
 

@@ -11,7 +11,8 @@ use Rattle.alf_cross.proofs.split.split_row.Tie as tie
 
 abbrev Inv-loop : tie.InvT-loop
 Inv-loop copy pitch at split₀ half i₀ split i =
-    (i ≤ half) × (length split ≡ length split₀) × SplitRow copy split pitch 2 at (2 * i) × ((k : ℕ) → k < at → getD split k 0 ≡ getD split₀ k 0)
+    (i ≤ half) × (length split ≡ length split₀) × SplitRow copy split pitch 2 at (2 * i)
+    × ((k : ℕ) → k < at → getD split k 0 ≡ getD split₀ k 0)
 
 abbrev μ-loop : tie.MeasureT-loop
 μ-loop copy pitch at split₀ half i₀ split i = half - i

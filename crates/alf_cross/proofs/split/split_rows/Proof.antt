@@ -23,14 +23,19 @@ room : (c : tie.In-loop Inv-loop μ-loop) → let a = c .before .before .before 
 room c =
     let s = c .before .before .before .before in
     let a = s .args in
-    let j = c .before .loop .j in
-    (row-room j (a .rows) (a .pitch) _ (c .loop-test .taken) (s .pre .1), row-room j (a .rows) (a .pitch) _ (c .loop-test .taken) (s .pre .2))
+    let j = c .before .loop .j in (
+      row-room j (a .rows) (a .pitch) _ (c .loop-test .taken) (s .pre .1),
+      row-room j (a .rows) (a .pitch) _ (c .loop-test .taken) (s .pre .2),
+    )
 
 loop-again : tie.Need-loop-again Inv-loop μ-loop
 loop-again c =
     let call = c .before .before .split-row .ensures in
-    let l = c .before .before .before .before .before .loop in
-    (omega arith, omega (arith, l .inv .1, c .before .split .given), rows-more (c .before .before .before .before .before .before .before .before .pre .0) (l .inv .2) (call .0) (call .1))
+    let l = c .before .before .before .before .before .loop in (
+      omega arith,
+      omega (arith, l .inv .1, c .before .split .given),
+      rows-more (c .before .before .before .before .before .before .before .before .pre .0) (l .inv .2) (call .0) (call .1),
+    )
 
 pub split-rows-spec : {M : Type 1} → statement M
 split-rows-spec =

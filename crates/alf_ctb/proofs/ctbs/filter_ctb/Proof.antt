@@ -23,14 +23,16 @@ use Rattle.alf_ctb.proofs.ctbs.filter_ctb.Statement.{statement}
 use Rattle.alf_ctb.proofs.ctbs.filter_ctb.Tie as tie
 
 abbrev Inv-loop : tie.InvT-loop
-Inv-loop filter picture grid virtual-columns virtual-rows ctb sides luma chroma filters places copy₀ differences₀ taps₀ output₀ top bottom y₀ copy differences taps output y =
+Inv-loop filter picture grid virtual-columns virtual-rows ctb sides luma chroma filters places copy₀ differences₀ taps₀ output₀ top
+    bottom y₀ copy differences taps output y =
     Walk (axisOf (picture .height) (grid .ctb) virtual-rows (walkLine filter) 1) (ctb .row) y
     × (length copy ≡ length copy₀) × (length differences ≡ length differences₀) × TapNumbers taps × (length taps ≡ length taps₀)
     × (length output ≡ length output₀)
     × RowsFiltered filter picture grid virtual-columns virtual-rows ctb sides luma chroma filters y output₀ output
 
 abbrev μ-loop : tie.MeasureT-loop
-μ-loop filter picture grid virtual-columns virtual-rows ctb sides luma chroma filters places copy₀ differences₀ taps₀ output₀ top bottom y₀ copy differences taps output y = bottom - y
+μ-loop filter picture grid virtual-columns virtual-rows ctb sides luma chroma filters places copy₀ differences₀ taps₀ output₀ top bottom
+    y₀ copy differences taps output y = bottom - y
 
 -- what the function is given
 abbrev start : tie.In-loop Inv-loop μ-loop → tie.Start Inv-loop μ-loop
@@ -54,19 +56,27 @@ loop-holds c =
 
 -- the piece that a turn finds
 found : (c : tie.After-strip-rows Inv-loop μ-loop) → let a = start (c .before) .args in
-    Turn (axisOf (a .picture .height) (a .grid .ctb) (a .virtual-rows .now) (walkLine (a .filter)) 1) (either (a .sides .top) (a .sides .bottom)) (a .ctb .row)
+    Turn (axisOf (a .picture .height) (a .grid .ctb) (a .virtual-rows .now) (walkLine (a .filter)) 1)
+    (either (a .sides .top) (a .sides .bottom)) (a .ctb .row)
     (c .before .before .loop .y) (c .strip-rows .result)
 found c =
     let s = start (c .before) in
     let given = s .pre .0 in
-    turn (rows-regular (given .grid) (given .sizes) (given .ctbSize) (s .pre .4) _ 1) whole (walks (s .args .filter)) (given .grid .ctbHigh) (c .before .before .loop .inv .0)
+    turn (rows-regular (given .grid) (given .sizes) (given .ctbSize) (s .pre .4) _ 1) whole (walks (s .args .filter)) (given .grid .ctbHigh)
+    (c .before .before .loop .inv .0)
     (omega (arith, c .before .before .before .ctb-limit .ensures, c .before .loop-test .taken)) (c .strip-rows .ensures)
 
 filter-strip-requires : tie.Need-filter-strip-requires Inv-loop μ-loop
 filter-strip-requires c κs =
     let s = start (c .before .before .before .before .before) in
-    let inv = c .before .before .before .before .before .before .loop .inv in
-    (s .pre .0, s .pre .1, rooms-same (s .pre .2) (inv .1) (inv .2) (inv .3) (inv .5), s .pre .3, block-piece (found (c .before .before .before .before) .facts), s .pre .5)
+    let inv = c .before .before .before .before .before .before .loop .inv in (
+      s .pre .0,
+      s .pre .1,
+      rooms-same (s .pre .2) (inv .1) (inv .2) (inv .3) (inv .5),
+      s .pre .3,
+      block-piece (found (c .before .before .before .before) .facts),
+      s .pre .5,
+    )
 
 loop-less : tie.Need-loop-less Inv-loop μ-loop
 loop-less c =
@@ -112,8 +122,12 @@ filter-ctb-spec =
     loop-holds
     (λ c κs.
     let s = start c in
-    let most = height-bounds (s .args .picture) (s .pre .0 .sizes) (s .pre .0 .ctbSize) in
-    (s .pre .0 .grid, few s, omega (arith, most, c .loop-test .taken, c .before .before .ctb-limit .ensures), omega (arith, c .before .loop .inv .0 .from)))
+    let most = height-bounds (s .args .picture) (s .pre .0 .sizes) (s .pre .0 .ctbSize) in (
+      s .pre .0 .grid,
+      few s,
+      omega (arith, most, c .loop-test .taken, c .before .before .ctb-limit .ensures),
+      omega (arith, c .before .loop .inv .0 .from),
+    ))
     filter-strip-requires
     loop-less
     loop-again

@@ -4,7 +4,8 @@ use Prim.Native.Nat.{ℕ}
 use borrow.Author.Needs.{needs}
 use Rattle.alf_spec.proofs.IsolatedRegions.Ratios.{chroma-ratios}
 use Rattle.alf_pieces.specs.Pieces.{scaled}
-use Rattle.alf_ctb.proofs.PieceFilters.{luma-work, chroma-work, cross-work, scaled-in, luma-filtered, chroma-filtered, cross-filtered}
+use Rattle.alf_ctb.proofs.PieceFilters.{luma-work, chroma-work, cross-work, scaled-in, luma-filtered, chroma-filtered}
+use Rattle.alf_ctb.proofs.PieceFilters.{cross-filtered}
 use Rattle.alf_ctb.proofs.pieces.filter_piece.Statement.{statement}
 use Rattle.alf_ctb.proofs.pieces.filter_piece.Tie as tie
 
@@ -29,8 +30,16 @@ filter-piece-requires-2 c κs =
     let f = c .before .before .before .before .before .before .before in
     let s = chroma-start f in
     let ratios = chroma-ratios (s .args .picture) in
-    rw (c .before .before .before .before .before .scaled .ensures, c .before .before .before .before .before .before .sub-width .ensures .0, c .before .before .before .scaled2 .ensures, c .before .before .before .before .sub-height .ensures .0)
-    (chroma-work _ (s .pre .0) (s .pre .1) (s .pre .2) (f .enum-told2 .given .1), scaled-in (ratios .0) (s .pre .3), scaled-in (ratios .1) (s .pre .4))
+    rw (
+      c .before .before .before .before .before .scaled .ensures,
+      c .before .before .before .before .before .before .sub-width .ensures .0,
+      c .before .before .before .scaled2 .ensures,
+      c .before .before .before .before .sub-height .ensures .0,
+    ) (
+      chroma-work _ (s .pre .0) (s .pre .1) (s .pre .2) (f .enum-told2 .given .1),
+      scaled-in (ratios .0) (s .pre .3),
+      scaled-in (ratios .1) (s .pre .4),
+    )
 
 filter-piece-requires-3 : tie.Need-filter-piece-requires-3
 filter-piece-requires-3 c κs =
@@ -51,16 +60,23 @@ returns-2 c =
     let a = s .args in
     let done = c .before .before .before .before .before .filter-piece2 .ensures in (
       chroma-filtered _ _ _ _ _ _ _ _ _ _ (f .enum-told2 .given .1) (s .pre .3) (s .pre .4)
-          (c .before .before .before .before .before .before .before .before .before .before .before .scaled .ensures ∙ ap (λ (r : ℕ). scaled r (a .columns)) (c .before .before .before .before .before .before .before .before .before .before .before .before .sub-width .ensures .0))
-          (c .before .before .before .before .before .before .before .before .before .scaled2 .ensures ∙ ap (λ (r : ℕ). scaled r (a .rows)) (c .before .before .before .before .before .before .before .before .before .before .sub-height .ensures .0)) (done .0),
+          (c .before .before .before .before .before .before .before .before .before .before .before .scaled .ensures
+          ∙ ap (λ (r : ℕ). scaled r (a .columns)) (c .before .before .before .before .before .before .before .before .before .before
+          .before .before .sub-width .ensures .0))
+          (c .before .before .before .before .before .before .before .before .before .scaled2 .ensures
+          ∙ ap (λ (r : ℕ). scaled r (a .rows)) (c .before .before .before .before .before .before .before .before .before .before
+          .sub-height .ensures .0)) (done .0),
       done .1,
     )
 
 returns-3 : tie.Need-returns-3
 returns-3 c =
     let f = c .before .before .before .before .before .before .before .before .before .before in
-    let s = cross-start f in
-    (cross-filtered _ _ _ _ _ _ _ _ _ _ (f .enum-told3 .given .1) (c .before .before .before .before .before .before .filter-piece3 .ensures), s .pre .2 .spread)
+    let s = cross-start f in (
+      cross-filtered _ _ _ _ _ _ _ _ _ _ (f .enum-told3 .given .1)
+          (c .before .before .before .before .before .before .filter-piece3 .ensures),
+      s .pre .2 .spread,
+    )
 
 pub filter-piece-spec : {M : Type 1} → statement M
 filter-piece-spec =

@@ -11,8 +11,12 @@ use Rattle.alf_ctb.proofs.tables.load.Tie as tie
 load-luma-requires : tie.Need-load-luma-requires
 load-luma-requires c κs =
     let s = c .before .before .before .before .before .before .before in
-    let a = s .args in
-    (s .pre .1, subst (λ (f : Filter). FixedGiven f (a .depth) (a .fixed-filters .now) (a .fixed-map .now)) (c .before .enum-told .given .1) (s .pre .2), s .pre .4)
+    let a = s .args in (
+      s .pre .1,
+      subst (λ (f : Filter). FixedGiven f (a .depth) (a .fixed-filters .now) (a .fixed-map .now)) (c .before .enum-told .given .1)
+          (s .pre .2),
+      s .pre .4,
+    )
 
 load-chroma-requires : tie.Need-load-chroma-requires
 load-chroma-requires c κs =
@@ -22,8 +26,13 @@ load-chroma-requires c κs =
 load-cross-requires : tie.Need-load-cross-requires
 load-cross-requires c κs =
     let s = c .before .before .before .before .before .before .before .before in
-    let e = c .before .before .filter2 .given .1 in
-    (subst ComponentOf e (s .pre .0), s .pre .1, subst (λ (f : Filter). Switched f (s .args .ctb-params .now) (s .args .k)) e (s .pre .3), s .pre .4, s .pre .5)
+    let e = c .before .before .filter2 .given .1 in (
+      subst ComponentOf e (s .pre .0),
+      s .pre .1,
+      subst (λ (f : Filter). Switched f (s .args .ctb-params .now) (s .args .k)) e (s .pre .3),
+      s .pre .4,
+      s .pre .5,
+    )
 
 pub load-spec : {M : Type 1} → statement M
 load-spec =
@@ -39,7 +48,11 @@ load-spec =
     (λ c. luma-loaded _ _ _ _ _ _ _ _ _ _ (c .before .before .before .enum-told .given .1) (c .before .load-luma .ensures))
     (λ c. search needs)
     (λ c.
-    chroma-loaded _ _ _ _ _ _ _ _ _ _ (c .before .before .before .before .filter .given .1) (omega (arith, c .filters2 .given, c .before .before .before .before .before .before .before .before .before .before .pre .4)) (c .before .load-chroma .ensures))
+    chroma-loaded _ _ _ _ _ _ _ _ _ _ (c .before .before .before .before .filter .given .1)
+    (omega (arith, c .filters2 .given, c .before .before .before .before .before .before .before .before .before .before .pre .4))
+    (c .before .load-chroma .ensures))
     (λ c. search needs)
     (λ c.
-    cross-loaded _ _ _ _ _ _ _ _ _ _ (c .before .before .before .before .filter2 .given .1) (omega (arith, c .filters3 .given, c .before .before .before .before .before .before .before .before .before .before .pre .4)) (c .before .load-cross .ensures)))
+    cross-loaded _ _ _ _ _ _ _ _ _ _ (c .before .before .before .before .filter2 .given .1)
+    (omega (arith, c .filters3 .given, c .before .before .before .before .before .before .before .before .before .before .pre .4))
+    (c .before .load-cross .ensures)))

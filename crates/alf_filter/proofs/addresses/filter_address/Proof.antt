@@ -21,12 +21,14 @@ use Rattle.alf_filter.proofs.addresses.filter_address.Tie as tie
 -- the layout and the input that it is given
 abbrev layout : tie.Start → Layout
 layout s =
-    layoutOf (s .args .picture) (s .args .virtual-columns .now) (s .args .virtual-rows .now) (s .args .tile-columns .now) (s .args .tile-rows .now)
+    layoutOf (s .args .picture) (s .args .virtual-columns .now) (s .args .virtual-rows .now) (s .args .tile-columns .now)
+    (s .args .tile-rows .now)
     (s .args .slice-map .now) (s .args .subpic-map .now) (s .args .subpic-across .now)
 
 abbrev input : tie.Start → List ℕ → ℕ → Input
 input s list n =
-    inputOf (layout s) (s .args .luma .now) (s .args .chroma .now) (s .args .slice-params .now) (s .args .bank .now) (s .args .ctb-params .now) list
+    inputOf (layout s) (s .args .luma .now) (s .args .chroma .now) (s .args .slice-params .now) (s .args .bank .now)
+    (s .args .ctb-params .now) list
     (s .args .fixed-filters .now) (s .args .fixed-map .now) n
 
 -- with no CTB listed
@@ -35,20 +37,25 @@ bare s = input s [] (length (s .args .output .now))
 
 -- what the function is given
 abbrev start : tie.After-is-on → tie.Start
-start c = c .before .before .before .before .before .before .before .before .before .before .before .before .before .before .before .before .before .before .before
+start c = c .before .before .before .before .before .before .before .before .before .before .before .before .before .before .before
+    .before .before .before .before
 
 -- whether the CTB is on, for every list
-on : (c : tie.After-is-on) (list : List ℕ) (n : ℕ) → let s = start c in c .is-on .result ≡ isOn (s .args .filter) (input s list n) (ctbOf (layout s) (s .args .k))
-on c list n = let s = start c in c .is-on .ensures (input s list n) (ctbOf (layout s) (s .args .k)) refl (div-add-mod' (s .args .k) (ctbColumns (layout s)))
+on : (c : tie.After-is-on) (list : List ℕ) (n : ℕ) → let s = start c in c .is-on .result ≡ isOn (s .args .filter) (input s list n)
+    (ctbOf (layout s) (s .args .k))
+on c list n = let s = start c in c .is-on .ensures (input s list n) (ctbOf (layout s) (s .args .k)) refl
+    (div-add-mod' (s .args .k) (ctbColumns (layout s)))
 
 -- the test that the contract names is the code's
 tested : (c : tie.After-is-on) {b : Bool} → let s = start c in (eqb (getD (s .args .marks .now) (s .args .k) 0) 1 && c .is-on .result) ≡ b
-    → (list : List ℕ) (n : ℕ) → (eqb (getD (s .args .marks .now) (s .args .k) 0) 1 && isOn (s .args .filter) (input s list n) (ctbOf (layout s) (s .args .k))) ≡ b
+    → (list : List ℕ) (n : ℕ) → (eqb (getD (s .args .marks .now) (s .args .k) 0) 1
+    && isOn (s .args .filter) (input s list n) (ctbOf (layout s) (s .args .k))) ≡ b
 tested c e list n = let s = start c in sym (ap (λ (b : Bool). eqb (getD (s .args .marks .now) (s .args .k) 0) 1 && b) (on c list n)) ∙ e
 
 is-on-requires : tie.Need-is-on-requires
 is-on-requires c κs =
-    let s = c .before .before .before .before .before .before .before .before .before .before .before .before .before .before .before .before .before .before in
+    let s = c .before .before .before .before .before .before .before .before .before .before .before .before .before .before .before
+    .before .before .before in
     let f = s .args .filter in
     let below : s .args .k < ctbTotal (layout s) = rw (grid-total (layout s) _ (s .pre .1)) at (s .pre .2) in
     (component-accepted f (bare s) (s .pre .0), accepted-tables (operationOf f) (bare s) (s .pre .0) (filters-given f) _ below .ctbNumbers)

@@ -14,7 +14,8 @@ use Rattle.alf_pieces.proofs.CtbPieces.{ctb-accepted}
 use Rattle.alf_params.proofs.AcceptedTables.{accepted-tables}
 use Rattle.alf_params.proofs.LoadedFilters.{zeros}
 use Rattle.alf_ctb.specs.Filters.{operationOf}
-use Rattle.alf_filter.proofs.AcceptedFilters.{filters-given, layout-accepted, output-size, filter-given, component-accepted, fixed-accepted, fixed-same}
+use Rattle.alf_filter.proofs.AcceptedFilters.{filters-given, layout-accepted, output-size, filter-given, component-accepted}
+use Rattle.alf_filter.proofs.AcceptedFilters.{fixed-accepted, fixed-same}
 use Rattle.alf_filter.proofs.CtbFilters.{ctb-done}
 use Rattle.alf_filter.proofs.addresses.filter_on.Statement.{statement}
 use Rattle.alf_filter.proofs.addresses.filter_on.Tie as tie
@@ -22,12 +23,14 @@ use Rattle.alf_filter.proofs.addresses.filter_on.Tie as tie
 -- the layout and the input that it is given
 abbrev layout : tie.Start → Layout
 layout s =
-    layoutOf (s .args .picture) (s .args .virtual-columns .now) (s .args .virtual-rows .now) (s .args .tile-columns .now) (s .args .tile-rows .now)
+    layoutOf (s .args .picture) (s .args .virtual-columns .now) (s .args .virtual-rows .now) (s .args .tile-columns .now)
+    (s .args .tile-rows .now)
     (s .args .slice-map .now) (s .args .subpic-map .now) (s .args .subpic-across .now)
 
 abbrev input : tie.Start → List ℕ → ℕ → Input
 input s list n =
-    inputOf (layout s) (s .args .luma .now) (s .args .chroma .now) (s .args .slice-params .now) (s .args .bank .now) (s .args .ctb-params .now) list
+    inputOf (layout s) (s .args .luma .now) (s .args .chroma .now) (s .args .slice-params .now) (s .args .bank .now)
+    (s .args .ctb-params .now) list
     (s .args .fixed-filters .now) (s .args .fixed-map .now) n
 
 -- with no CTB listed
@@ -39,10 +42,12 @@ ok s = layout-accepted (s .args .filter) (bare s) (s .pre .0)
 
 -- what the function is given, from where the sides are known
 abbrev start : tie.After-sides-of → tie.Start
-start c = c .before .before .before .before .before .before .before .before .before .before .before .before .before .before .before .before .before .before .before
+start c = c .before .before .before .before .before .before .before .before .before .before .before .before .before .before .before
+    .before .before .before .before
 
 sides-of-requires : tie.Need-sides-of-requires
-sides-of-requires c κs = let s = c .before .before .before .before .before .before .before .before .before .before .before .before .before .before .before .before .before .before in ctb-in-grid (layout s) (ok s) (s .pre .1) _ (s .pre .2)
+sides-of-requires c κs = let s = c .before .before .before .before .before .before .before .before .before .before .before .before
+    .before .before .before .before .before .before in ctb-in-grid (layout s) (ok s) (s .pre .1) _ (s .pre .2)
 
 load-requires : tie.Need-load-requires
 load-requires c κs =
@@ -74,7 +79,8 @@ filter-ctb-requires c κs =
 
 returns : tie.Need-returns
 returns c =
-    let found = c .before .before .before .before .before .before .before .before .before .before .before .before .before .before .before .before .before in
+    let found = c .before .before .before .before .before .before .before .before .before .before .before .before .before .before .before
+    .before .before in
     let s = start found in
     let f = s .args .filter in
     let done = c .before .before .before .before .before .before .before .filter-ctb .ensures in
@@ -84,7 +90,8 @@ returns c =
       (λ list n.
           ctb-done f (layout s) (ok s) (s .pre .1) _ (output-size f (bare s) (s .pre .0)) _ _
           (done .0 (input s list n) (ctb-accepted (ok s) (found .sides-of .ensures _ _)) refl refl refl refl
-          (c .before .before .before .before .before .before .before .before .before .before .before .before .before .before .load .ensures .1 (input s list n) _
+          (c .before .before .before .before .before .before .before .before .before .before .before .before .before .before .load
+          .ensures .1 (input s list n) _
           (record { sameSliceMap = refl; sameSliceParams = refl; sameBank = refl; sameCtbParams = refl; atAddress = at })
           (fixed-same f (input s list n) refl refl refl)))),
       done .1,

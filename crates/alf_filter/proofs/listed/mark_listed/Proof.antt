@@ -22,7 +22,11 @@ abbrev μ-loop : tie.MeasureT-loop
 in-marks : (c : tie.After-wide Inv-loop μ-loop) → c .wide .result < length (c .before .before .before .loop .marks)
 in-marks c =
     let turn = c .before .before in
-    rw (c .wide .ensures) (omega (arith, turn .before .before .before .before .pre _ (turn .loop-test .taken), turn .before .loop .inv .1 .len))
+    rw (c .wide .ensures) (omega (
+      arith,
+      turn .before .before .before .before .pre _ (turn .loop-test .taken),
+      turn .before .loop .inv .1 .len,
+    ))
 
 loop-again : tie.Need-loop-again Inv-loop μ-loop
 loop-again c =

@@ -17,14 +17,20 @@ copy-input-spec =
     tie.close
     (tie.spec
     (λ c. search needs)
-    (λ c κs. let s = c .before .before .before .before .before .before in ap length (sym (named s (c .before .enum-told .given .1))) ∙ s .pre)
+    (λ c κs. let s = c .before .before .before .before .before .before in
+    ap length (sym (named s (c .before .enum-told .given .1))) ∙ s .pre)
     (λ c. search needs)
-    (λ c κs. let s = c .before .before .before .before .before .before in ap length (sym (named s (c .before .enum-told2 .given .1))) ∙ s .pre)
+    (λ c κs. let s = c .before .before .before .before .before .before in
+    ap length (sym (named s (c .before .enum-told2 .given .1))) ∙ s .pre)
     (λ c. search needs)
-    (λ c κs. let s = c .before .before .before .before .before .before in ap length (sym (named s (c .before .enum-told3 .given .1))) ∙ s .pre)
+    (λ c κs. let s = c .before .before .before .before .before .before in
+    ap length (sym (named s (c .before .enum-told3 .given .1))) ∙ s .pre)
     (λ c. search needs)
-    (λ c. let s = c .before .before .before .before .before .before .before .before .before in c .before .before .copy-plane .ensures ∙ sym (named s (c .before .before .before .before .enum-told .given .1)))
+    (λ c. let s = c .before .before .before .before .before .before .before .before .before in c .before .before .copy-plane .ensures
+    ∙ sym (named s (c .before .before .before .before .enum-told .given .1)))
     (λ c. search needs)
-    (λ c. let s = c .before .before .before .before .before .before .before .before .before in c .before .before .copy-plane2 .ensures ∙ sym (named s (c .before .before .before .before .enum-told2 .given .1)))
+    (λ c. let s = c .before .before .before .before .before .before .before .before .before in c .before .before .copy-plane2 .ensures
+    ∙ sym (named s (c .before .before .before .before .enum-told2 .given .1)))
     (λ c. search needs)
-    (λ c. let s = c .before .before .before .before .before .before .before .before .before in c .before .before .copy-plane3 .ensures ∙ sym (named s (c .before .before .before .before .enum-told3 .given .1))))
+    (λ c. let s = c .before .before .before .before .before .before .before .before .before in c .before .before .copy-plane3 .ensures
+    ∙ sym (named s (c .before .before .before .before .enum-told3 .given .1))))

@@ -20,12 +20,14 @@ use Rattle.alf_filter.proofs.plane.filter_plane.Tie as tie
 -- the layout and the input that it is given
 abbrev layout : tie.Start → Layout
 layout s =
-    layoutOf (s .args .picture) (s .args .virtual-columns .now) (s .args .virtual-rows .now) (s .args .tile-columns .now) (s .args .tile-rows .now)
+    layoutOf (s .args .picture) (s .args .virtual-columns .now) (s .args .virtual-rows .now) (s .args .tile-columns .now)
+    (s .args .tile-rows .now)
     (s .args .slice-map .now) (s .args .subpic-map .now) (s .args .subpic-across .now)
 
 abbrev input : tie.Start → Input
 input s =
-    inputOf (layout s) (s .args .luma .now) (s .args .chroma .now) (s .args .slice-params .now) (s .args .bank .now) (s .args .ctb-params .now)
+    inputOf (layout s) (s .args .luma .now) (s .args .chroma .now) (s .args .slice-params .now) (s .args .bank .now)
+    (s .args .ctb-params .now)
     (s .args .ctb-list .now) (s .args .fixed-filters .now) (s .args .fixed-map .now) (length (s .args .output .now))
 
 ok : (s : tie.Start) → Accepted (layout s)
@@ -58,13 +60,19 @@ filter-marked-requires c κs =
 
 returns : tie.Need-returns
 returns c =
-    let copied = c .before .before .before .before .before .before .before .before .before .before .before .before .before .before .before in
+    let copied = c .before .before .before .before .before .before .before .before .before .before .before .before .before .before .before
+    in
     let s = start copied in
     let f = s .args .filter in
     let i = input s in
     let g = outputPlane (operationOf f) (layout s) in
     c .before .before .filter-marked .ensures (s .args .ctb-list .now) (length (s .args .output .now))
-    (λ k h. marks-listed _ (c .before .before .before .before .before .before .before .before .before .before .mark-listed .ensures) k (omega (arith, few-ctbs (c .before .before .before .before .before .before .before .before .before .before .before .before .grid .ensures))))
+    (λ k h. marks-listed _ (c .before .before .before .before .before .before .before .before .before .before .mark-listed .ensures) k
+    (omega (
+      arith,
+      few-ctbs (c .before .before .before .before .before .before .before .before .before .before .before .before
+          .grid .ensures),
+    )))
     ∙ ap (λ (xs : List ℕ). painted xs (isFiltered i g (isOn f i)) (atIndex g (sampleOf f i))) (copied .copy-input .ensures)
     ∙ sym (result-is f i)
 
@@ -72,7 +80,8 @@ pub filter-plane-spec : {M : Type 1} → statement M
 filter-plane-spec =
     tie.close
     (tie.spec
-    (λ c κs. let s = c .before .before .before .before .before .before .before .before .before .before .before .before .before .before .before in plane-length (s .args .filter) (input s) (s .pre))
+    (λ c κs. let s = c .before .before .before .before .before .before .before .before .before .before .before .before .before .before
+    .before in plane-length (s .args .filter) (input s) (s .pre))
     (λ c κs. let s = start (c .before .before) in (ok s .sizes, ok s .ctbSize))
     (λ c. search needs)
     mark-listed-requires

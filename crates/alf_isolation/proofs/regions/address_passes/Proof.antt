@@ -8,7 +8,8 @@ use Rattle.alf_isolation.proofs.regions.address_passes.Tie as tie
 -- the layout that it is given
 abbrev layout : tie.Start → Layout
 layout s =
-    layoutOf (s .args .picture) (s .args .virtual-columns .now) (s .args .virtual-rows .now) (s .args .tile-columns .now) (s .args .tile-rows .now)
+    layoutOf (s .args .picture) (s .args .virtual-columns .now) (s .args .virtual-rows .now) (s .args .tile-columns .now)
+    (s .args .tile-rows .now)
     (s .args .slice-map .now) (s .args .subpic-map .now) (s .args .subpic-across .now)
 
 pub address-passes-spec : {M : Type 1} → statement M

@@ -23,7 +23,8 @@ abbrev μ-loop : tie.MeasureT-loop
 -- the layout that it is given
 abbrev layout : tie.Start Inv-loop μ-loop → Layout
 layout s =
-    layoutOf (s .args .picture) (s .args .virtual-columns .now) (s .args .virtual-rows .now) (s .args .tile-columns .now) (s .args .tile-rows .now)
+    layoutOf (s .args .picture) (s .args .virtual-columns .now) (s .args .virtual-rows .now) (s .args .tile-columns .now)
+    (s .args .tile-rows .now)
     (s .args .slice-map .now) (s .args .subpic-map .now) (s .args .subpic-across .now)
 
 pub region-isolated-spec : {M : Type 1} → statement M

@@ -13,7 +13,8 @@ use Rattle.alf_luma.proofs.kernel.luma_row.Statement.{statement}
 use Rattle.alf_luma.proofs.kernel.luma_row.Tie as tie
 
 abbrev Inv-loop : tie.InvT-loop
-Inv-loop copy s taps shift depth output₀ from n x₀ output x = (x ≤ n) × Paint output₀ (between from x) (rowFrom depth shift copy taps s from) output
+Inv-loop copy s taps shift depth output₀ from n x₀ output x = (x ≤ n)
+    × Paint output₀ (between from x) (rowFrom depth shift copy taps s from) output
 
 abbrev μ-loop : tie.MeasureT-loop
 μ-loop copy s taps shift depth output₀ from n x₀ output x = n - x

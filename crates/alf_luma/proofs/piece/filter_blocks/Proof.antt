@@ -68,19 +68,22 @@ module _ (c : tie.After-spread) {taps : List ℤ} (filled : SpreadRow c taps) wh
   few : extent (s .args .columns) / 4 ≤ 32
   few = omega (arith, across (found c) .few)
 
-  numbers : (b : ℕ) → b < extent (s .args .columns) / 4 → getD (s .args .map .now) (s .args .row * 32 + b) 0 ≡ classNumber (class (found c) b)
+  numbers : (b : ℕ) → b < extent (s .args .columns) / 4 → getD (s .args .map .now) (s .args .row * 32 + b) 0 ≡ classNumber
+      (class (found c) b)
   numbers b h = s .pre .3 b (s .args .row) h (s .pre .4)
 
   taps-valid : TapNumbers taps
   taps-valid =
       let a = s .args in
-      spread-numbers (a .filters .now) (a .places .now) (a .map .now) (a .row * 32) _ (class (found c)) filled (s .pre .0 .order) (s .pre .0 .spread .room)
+      spread-numbers (a .filters .now) (a .places .now) (a .map .now) (a .row * 32) _ (class (found c)) filled (s .pre .0 .order)
+      (s .pre .0 .spread .room)
       few numbers (λ b. class-of-range _ _ _) (s .pre .0 .numbers) (s .pre .0 .spread)
 
   own-filters : RowFilters (s .args .filters .now) taps (class (found c)) (extent (s .args .columns))
   own-filters =
       let a = s .args in
-      row-filters (a .filters .now) (a .places .now) (a .map .now) (a .row * 32) _ (class (found c)) filled (s .pre .0 .order) (s .pre .0 .spread .room)
+      row-filters (a .filters .now) (a .places .now) (a .map .now) (a .row * 32) _ (class (found c)) filled (s .pre .0 .order)
+      (s .pre .0 .spread .room)
       few numbers (λ b. class-of-range _ _ _) _ (omega (arith, across (found c) .whole))
 
 filter-four-requires : tie.Need-filter-four-requires
@@ -112,8 +115,10 @@ returns c =
     let filled = rw (f .extent .ensures) at (after .spread .ensures) in
     let last : a .columns .end ≡ a .columns .start + extent (a .columns) = omega (arith, start f .pre .1 .across .numbers) in (
       paint-is (paint-same (paint-of (rw (f .extent .ensures) at (c .before .before .filter-four .ensures)))
-          (λ k h. ap (λ (e : ℕ). inRect (a .picture .width) (a .columns .start) e (a .rows .start + 4 * a .row) (a .rows .start + 4 * a .row + 4) k) last)
-          (λ k h t. blocks-value (a .picture) (a .grid .ctb) (a .copy .now) (a .columns) (a .rows) (a .filters .now) _ (a .row) (own-filters after filled) k t)),
+          (λ k h. ap (λ (e : ℕ). inRect (a .picture .width) (a .columns .start) e (a .rows .start + 4 * a .row)
+          (a .rows .start + 4 * a .row + 4) k) last)
+          (λ k h t. blocks-value (a .picture) (a .grid .ctb) (a .copy .now) (a .columns) (a .rows) (a .filters .now) _ (a .row)
+          (own-filters after filled) k t)),
       taps-valid after filled,
     )
 

@@ -17,7 +17,8 @@ use Rattle.alf_luma.proofs.piece.filter_four.Tie as tie
 
 abbrev Inv-loop : tie.InvT-loop
 Inv-loop picture grid left n top t copy taps output₀ width i₀ output i =
-    (i ≤ 4) × Paint output₀ (inRect (picture .width) left (left + n) top (top + i)) (spreadSampleAt picture (grid .ctb) copy taps left n top t) output
+    (i ≤ 4) × Paint output₀ (inRect (picture .width) left (left + n) top (top + i))
+    (spreadSampleAt picture (grid .ctb) copy taps left n top t) output
 
 abbrev μ-loop : tie.MeasureT-loop
 μ-loop picture grid left n top t copy taps output₀ width i₀ output i = 4 - i
@@ -64,7 +65,8 @@ loop-again c =
     let next : a .top + l .i + 1 ≡ a .top + (l .i + 1) = omega arith in (
       omega (arith, turn .loop-test .taken),
       paint-call _ _ (l .inv .1) (c .before .before .filter-row .ensures)
-          (λ k h t. row-value (a .picture) (a .grid .ctb) (a .copy .now) (a .taps .now) (a .left) (a .n) (a .top) (a .t) (l .i) k (s .pre .1) t)
+          (λ k h t. row-value (a .picture) (a .grid .ctb) (a .copy .now) (a .taps .now) (a .left) (a .n) (a .top) (a .t)
+          (l .i) k (s .pre .1) t)
           (λ k h. rw (← next) (rect-more (a .picture .width) (a .left) (a .n) (a .top) (a .top + l .i) (s .pre .1) (omega arith) k)),
     )
 

@@ -1,4 +1,5 @@
--- `alf_luma::piece::filter_piece` meets its contract: the copy holds what the taps and the class windows of the piece's samples read. Assumes nothing.
+-- `alf_luma::piece::filter_piece` meets its contract: the copy holds what the taps and the class windows of the piece's samples read.
+-- Assumes nothing.
 use mathlib.Core.Path.{refl, _∙_}
 use Prim.Native.Nat.{_≤_}
 use native.Mathlib.Omega.{arith}

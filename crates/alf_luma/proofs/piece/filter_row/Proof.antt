@@ -20,7 +20,8 @@ start c = c .before .before .before .before .before .before
 rows-are : (c : tie.After-luma-rows) → let a = start c .args in c .luma-rows .result ≡ rowsAt (a .picture .height) (a .grid .ctb) (a .y)
 rows-are c =
     let a = start c .args in
-    rw (c .before .before .before .line-rule .ensures (axisOf (a .picture .height) (a .grid .ctb) [] 4 1) refl refl) at (c .luma-rows .ensures)
+    rw (c .before .before .before .line-rule .ensures (axisOf (a .picture .height) (a .grid .ctb) [] 4 1) refl refl) at
+    (c .luma-rows .ensures)
 
 offsets : (c : tie.After-luma-rows) → Rising (c .luma-rows .result)
 offsets c = rw (rows-are c) (rising _ _)

@@ -1,4 +1,5 @@
--- `alf_luma::rows::line_rows` meets its contract: `4 | 5` is a range to the machine, so its arm, and the last, go by orders. Assumes nothing.
+-- `alf_luma::rows::line_rows` meets its contract: `4 | 5` is a range to the machine, so its arm, and the last, go by orders. Assumes
+-- nothing.
 use mathlib.Core.Path.{_≡_, refl}
 use mathlib.Core.Bool.{true}
 use mathlib.Core.Logic.{_⊎_, inl, inr, _≢_}

@@ -12,14 +12,17 @@ straight-small : (c : tie.After-larger) → Small (c .larger .result)
 straight-small c = let p = c .before .pre in rw (c .larger .ensures) (larger-small _ _ 1 3 (p .0) (p .1) (omega arith) (omega arith))
 
 slanted-small : (c : tie.After-larger2) → Small (c .larger2 .result)
-slanted-small c = let p = c .before .before .pre in rw (c .larger2 .ensures) (larger-small _ _ 0 2 (p .2) (p .3) (omega arith) (omega arith))
+slanted-small c = let p = c .before .before .pre in
+    rw (c .larger2 .ensures) (larger-small _ _ 0 2 (p .2) (p .3) (omega arith) (omega arith))
 
 level-small : (c : tie.After-activity) → c .activity .result < 5
 level-small c = rw (c .activity .ensures) (activity-small _ _ _)
 
 -- what the test says of the sums
-tested : (c : tie.After-is-diagonal) → let s = c .before .before .before .before .before .args .s in c .is-diagonal .result ≡ diagonal (dd s) (hv s)
-tested c = rw (← c .before .before .before .before .larger .ensures, ← c .before .before .before .larger2 .ensures) (c .is-diagonal .ensures)
+tested : (c : tie.After-is-diagonal) → let s = c .before .before .before .before .before .args .s in
+    c .is-diagonal .result ≡ diagonal (dd s) (hv s)
+tested c = rw (← c .before .before .before .before .larger .ensures, ← c .before .before .before .larger2 .ensures)
+    (c .is-diagonal .ensures)
 
 returns : tie.Need-returns
 unfolding classOfSums
@@ -44,7 +47,17 @@ class-of-sums-spec =
     (λ c. search needs)
     (λ c κs. search needs)
     (λ c κs. search needs)
-    (λ c κs. let a = c .before .before in omega (arith, level-small a, slanted-small (a .before .before), straight-small (a .before .before .before)))
-    (λ c κs. let a = c .before .before in omega (arith, level-small a, slanted-small (a .before .before), straight-small (a .before .before .before)))
+    (λ c κs. let a = c .before .before in omega (
+      arith,
+      level-small a,
+      slanted-small (a .before .before),
+      straight-small (a .before .before .before),
+    ))
+    (λ c κs. let a = c .before .before in omega (
+      arith,
+      level-small a,
+      slanted-small (a .before .before),
+      straight-small (a .before .before .before),
+    ))
     returns
     returns-2)

@@ -30,11 +30,17 @@ module _ (g : Gradient) (large : g .large < 2 ^ 18) (small : g .small < 2 ^ 18) 
 
   weak : doubled (g .large) ≤ ninefold (g .small) → doubled (g .small) < g .large → 1 ≡ strength g
   unfolding strength
-  weak h k = rw (le-ltb (9 * g .small) (g .large * 2) (not-strong h), lt-ltb (2 * g .small) (g .large) (omega (arith, shift-kept (g .small) 2 small (omega arith))))
+  weak h k = rw (
+    le-ltb (9 * g .small) (g .large * 2) (not-strong h),
+    lt-ltb (2 * g .small) (g .large) (omega (arith, shift-kept (g .small) 2 small (omega arith))),
+  )
 
   none : doubled (g .large) ≤ ninefold (g .small) → g .large ≤ doubled (g .small) → 0 ≡ strength g
   unfolding strength
-  none h k = rw (le-ltb (9 * g .small) (g .large * 2) (not-strong h), le-ltb (2 * g .small) (g .large) (omega (arith, shift-kept (g .small) 2 small (omega arith))))
+  none h k = rw (
+    le-ltb (9 * g .small) (g .large * 2) (not-strong h),
+    le-ltb (2 * g .small) (g .large) (omega (arith, shift-kept (g .small) 2 small (omega arith))),
+  )
 
 pub strength-spec : {M : Type 1} → statement M
 strength-spec =

@@ -8,4 +8,5 @@ use Rattle.alf_math.proofs.grid.sub_height.Tie as tie
 
 pub sub-height-spec : {M : Type 1} → statement M
 unfolding subHeight
-sub-height-spec = tie.close (tie.spec (λ c. (rw (eq-eqb _ _ (c .if1 .taken)) refl, omega arith)) (λ c. (rw (ne-eqb _ _ (c .if1 .left)) refl, omega arith)))
+sub-height-spec = tie.close (tie.spec (λ c. (rw (eq-eqb _ _ (c .if1 .taken)) refl, omega arith))
+    (λ c. (rw (ne-eqb _ _ (c .if1 .left)) refl, omega arith)))

@@ -18,7 +18,12 @@ moved-fits : (s : tie.Start) → let a = s .args in SFits w32 (pos (a .curr) +�
 unfolding rounded
 moved-fits s =
     let a = s .args in
-    fits-abs (omega (arith, abs-add (pos (a .curr)) (rounded (a .shift) (a .sum)), abs-shr (a .sum +ℤ pos 64) (2 ^ a .shift), abs-add (a .sum) (pos 64)))
+    fits-abs (omega (
+      arith,
+      abs-add (pos (a .curr)) (rounded (a .shift) (a .sum)),
+      abs-shr (a .sum +ℤ pos 64) (2 ^ a .shift),
+      abs-add (a .sum) (pos 64),
+    ))
 
 add-clip-sample : tie.Need-add-clip-sample
 add-clip-sample c = simp (change c, words, c .before .fits .curr) (moved-fits (c .before))

@@ -27,7 +27,8 @@ curr-back s = back w16 _ (omega arith)
 sub-min16 : tie.Need-sub-min16
 sub-min16 c = simp (sample-back c, curr-back c) (difference c)
 
-smaller : (c : tie.After-min16) → let a = c .before .args in toZ w16 (ofZ w16 (c .min16 .result)) ≡ minℤ (pos (a .sample) -ℤ pos (a .curr)) (a .c)
+smaller : (c : tie.After-min16) → let a = c .before .args in
+    toZ w16 (ofZ w16 (c .min16 .result)) ≡ minℤ (pos (a .sample) -ℤ pos (a .curr)) (a .c)
 smaller c =
     let s = c .before in
     returned w16 (c .min16 .ok) (simp (sample-back s, curr-back s, toZ-ofZ, difference s, s .fits .c) at (c .min16 .ensures))

@@ -1,4 +1,5 @@
--- `alf_math::taps::tap` meets its contract: the sum of two clipped changes fits 16 bits, and its product with the coefficient 32. Assumes nothing.
+-- `alf_math::taps::tap` meets its contract: the sum of two clipped changes fits 16 bits, and its product with the coefficient 32. Assumes
+-- nothing.
 use mathlib.Core.Path.{_≡_}
 use native.Mathlib.Omega.{arith}
 use lib.IntN.{ℤ, _+ℤ_, _*ℤ_}
@@ -28,11 +29,16 @@ abbrev pair : tie.Start → ℤ
 pair s = let a = s .args in clippedChange (a .curr) (a .c) (a .plus) +ℤ clippedChange (a .curr) (a .c) (a .minus)
 
 pair-fits : (s : tie.Start) → SFits w16 (pair s)
-pair-fits s = let a = s .args in fits-abs (omega (arith, abs-pair (a .curr) (a .f) (a .c) (s .pre .1) (s .pre .2 .small) (a .plus) (a .minus)))
+pair-fits s = let a = s .args in fits-abs
+    (omega (arith, abs-pair (a .curr) (a .f) (a .c) (s .pre .1) (s .pre .2 .small) (a .plus) (a .minus)))
 
 tap-fits : (s : tie.Start) → SFits w32 (s .args .f *ℤ pair s)
 unfolding tap
-tap-fits s = let a = s .args in fits-abs (omega (arith, abs-tap (a .curr) (a .f) (a .c) (s .pre .1) (s .pre .2 .small) (a .plus) (a .minus)))
+tap-fits s = let a = s .args in fits-abs (omega (
+  arith,
+  abs-tap (a .curr) (a .f) (a .c) (s .pre .1) (s .pre .2 .small)
+      (a .plus) (a .minus),
+))
 
 cast-result : tie.Need-cast-result
 cast-result c = let f = c .fits .f in simp (words, f) (widened f)

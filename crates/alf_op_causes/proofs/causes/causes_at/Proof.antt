@@ -13,7 +13,8 @@ use Rattle.alf_op_causes.proofs.causes.causes_at.Tie as tie
 -- the layout that it is given
 abbrev layout : tie.Start → Layout
 layout s =
-    layoutOf (s .args .picture) (s .args .virtual-columns .now) (s .args .virtual-rows .now) (s .args .tile-columns .now) (s .args .tile-rows .now)
+    layoutOf (s .args .picture) (s .args .virtual-columns .now) (s .args .virtual-rows .now) (s .args .tile-columns .now)
+    (s .args .tile-rows .now)
     (s .args .slice-map .now) (s .args .subpic-map .now) (s .args .subpic-across .now)
 
 -- it is accepted, and the position lies in the picture
@@ -45,7 +46,8 @@ returns c =
     let width = s .args .picture .width in
     let height = s .args .picture .height in
     causes-are (layout s) (ok .0) (g .grid .ensures) (s .args .x) (s .args .y) (ok .1) (ok .2) sides
-    (top .cause-before .ensures height 1) (bottom .cause-after .ensures height 1) (left .cause-before2 .ensures width 1) (c .cause-after2 .ensures width 1)
+    (top .cause-before .ensures height 1) (bottom .cause-after .ensures height 1) (left .cause-before2 .ensures width 1)
+    (c .cause-after2 .ensures width 1)
 
 pub causes-at-spec : {M : Type 1} → statement M
 causes-at-spec =

@@ -40,7 +40,12 @@ copy-numbers-requires c κs =
 fill-requires : tie.Need-fill-requires Inv-loop μ-loop
 fill-requires c κs =
     let turn = c .before .before .before .before .before in
-    omega (arith, turn .before .loop .inv .1 .len, turn .before .before .before .before .pre .2, c .before .before .copy-numbers .ensures .len)
+    omega (
+      arith,
+      turn .before .loop .inv .1 .len,
+      turn .before .before .before .before .pre .2,
+      c .before .before .copy-numbers .ensures .len,
+    )
 
 loop-again : tie.Need-loop-again Inv-loop μ-loop
 loop-again c =

@@ -12,7 +12,8 @@ use Rattle.alf_pieces.proofs.copies.copy_side.Statement.{statement}
 use Rattle.alf_pieces.proofs.copies.copy_side.Tie as tie
 
 abbrev Inv-loop : tie.InvT-loop
-Inv-loop plane row lowest limit start copy₀ at i k₀ copy k = (k ≤ 3) × Paint copy₀ (between (at + i) k) (rowAt plane row lowest limit start at) copy
+Inv-loop plane row lowest limit start copy₀ at i k₀ copy k = (k ≤ 3)
+    × Paint copy₀ (between (at + i) k) (rowAt plane row lowest limit start at) copy
 
 abbrev μ-loop : tie.MeasureT-loop
 μ-loop plane row lowest limit start copy₀ at i k₀ copy k = 3 - k
@@ -39,7 +40,8 @@ copy-side-spec =
     (λ c. (
       omega arith,
       paint-set _ _ (c .before .before .before .before .loop .inv .1) (omega arith)
-          (side-value _ _ _ _ _ _ _ _ _ _ (c .before .before .position .ensures) (c .before .held .ensures) (omega arith)) (λ k _. run-more _ _ k),
+          (side-value _ _ _ _ _ _ _ _ _ _ (c .before .before .position .ensures) (c .before .held .ensures) (omega arith))
+          (λ k _. run-more _ _ k),
     ))
     (λ c. search needs)
     (λ c. rw (le-antisymm (c .before .loop .inv .0) (c .loop-test .left)) at (paint-is (c .before .loop .inv .1))))

@@ -1,4 +1,5 @@
--- `alf_pieces::pieces::piece_end` meets its contract: the loop is left behind the first block with a clip position after it. Assumes nothing.
+-- `alf_pieces::pieces::piece_end` meets its contract: the loop is left behind the first block with a clip position after it. Assumes
+-- nothing.
 use Prim.Native.Nat.{_+_, _-_, _*_, _≤_, min}
 use native.Mathlib.Nat.{mul-le-mul}
 use native.Mathlib.Omega.{arith}
@@ -23,7 +24,8 @@ limit-small : (c : tie.After-ctb-limit Inv-loop μ-loop) → c .ctb-limit .resul
 limit-small c = omega (arith, c .ctb-limit .ensures, start-small (c .before .before))
 
 -- a whole block is left
-one-left : (c : tie.In-loop Inv-loop μ-loop) → let s = c .before .before .before .before .args in c .before .loop .end + 4 ≤ min (s .q * s .ctb + s .ctb) (s .size)
+one-left : (c : tie.In-loop Inv-loop μ-loop) → let s = c .before .before .before .before .args in
+    c .before .loop .end + 4 ≤ min (s .q * s .ctb + s .ctb) (s .size)
 one-left c = omega (arith, c .loop-test .taken, c .before .before .ctb-limit .ensures)
 
 pub piece-end-spec : {M : Type 1} → statement M
@@ -39,15 +41,21 @@ piece-end-spec =
     (λ c. omega (arith, c .before .loop .inv .0 .small))
     (λ c. omega (arith, c .before .loop .inv .0 .small))
     (λ c κs.
-    let s = c .before .before .before .before in
-    (s .pre .0, s .pre .1, omega (arith, c .loop-test .taken, limit-small (c .before .before)), s .pre .2, block-start _ _ _ (c .before .loop .inv .1) (omega (arith, one-left c))))
+    let s = c .before .before .before .before in (
+      s .pre .0,
+      s .pre .1,
+      omega (arith, c .loop-test .taken, limit-small (c .before .before)),
+      s .pre .2,
+      block-start _ _ _ (c .before .loop .inv .1) (omega (arith, one-left c)),
+    ))
     (λ c κs. search needs)
     (λ c.
     let asked = c .before in
     let block = asked .before .before in (
       omega (arith, block .loop-test .taken, limit-small (block .before .before)),
       scan-stop (block .before .loop .inv .0) (one-left block) (asked .before .clip-after .result)
-          (λ ratio sides e. asked .before .clip-after .ensures (block .before .before .before .before .args .size) ratio sides e) (asked .is-open .ensures)
+          (λ ratio sides e. asked .before .clip-after .ensures (block .before .before .before .before .args .size) ratio sides e)
+          (asked .is-open .ensures)
           (not-true (asked .is-open .result) (c .if1 .taken)),
     ))
     (λ c. omega (arith, c .before .before .before .loop-test .taken))
@@ -55,8 +63,13 @@ piece-end-spec =
     let asked = c .before in
     let block = asked .before .before in (
       scan-on (block .before .loop .inv .0) (one-left block) (asked .before .clip-after .result)
-          (λ ratio sides e. asked .before .clip-after .ensures (block .before .before .before .before .args .size) ratio sides e) (asked .is-open .ensures)
+          (λ ratio sides e. asked .before .clip-after .ensures (block .before .before .before .before .args .size) ratio sides e)
+          (asked .is-open .ensures)
           (not-false (asked .is-open .result) (c .if1 .left)) (omega (arith, block .loop-test .taken, limit-small (block .before .before))),
       omega (arith, block .before .loop .inv .1),
     ))
-    (λ c. (c .before .loop .inv .0 .small, scan-done (c .before .loop .inv .0) (omega (arith, c .loop-test .left, c .before .before .ctb-limit .ensures)))))
+    (λ c. (
+      c .before .loop .inv .0 .small,
+      scan-done (c .before .loop .inv .0)
+          (omega (arith, c .loop-test .left, c .before .before .ctb-limit .ensures)),
+    )))

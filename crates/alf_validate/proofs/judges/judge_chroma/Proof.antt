@@ -1,4 +1,5 @@
--- `alf_validate::judges::judge_chroma` meets its contract: its own tests are of the component, the chroma plane and the output. Assumes nothing.
+-- `alf_validate::judges::judge_chroma` meets its contract: its own tests are of the component, the chroma plane and the output. Assumes
+-- nothing.
 use mathlib.Core.Path.{refl}
 use borrow.Author.Needs.{needs}
 use Rattle.alf_validate.proofs.OwnTests.{chroma-fault}

@@ -1,4 +1,5 @@
--- `alf_validate::judges::judge_cross_component` meets its contract: its own tests are of the component, two planes and the output. Assumes nothing.
+-- `alf_validate::judges::judge_cross_component` meets its contract: its own tests are of the component, two planes and the output. Assumes
+-- nothing.
 use mathlib.Core.Path.{refl}
 use mathlib.Core.List.{[]}
 use borrow.Author.Needs.{needs}

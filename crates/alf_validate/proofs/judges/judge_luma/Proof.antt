@@ -1,4 +1,5 @@
--- `alf_validate::judges::judge_luma` meets its contract: its own tests are of the fixed tables, the luma plane and the output. Assumes nothing.
+-- `alf_validate::judges::judge_luma` meets its contract: its own tests are of the fixed tables, the luma plane and the output. Assumes
+-- nothing.
 use borrow.Author.Needs.{needs}
 use Rattle.alf_spec.specs.Geometry.{planeOf}
 use Rattle.alf_spec.specs.Faults.{fixedLengthsValid}

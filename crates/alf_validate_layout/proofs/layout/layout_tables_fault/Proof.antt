@@ -1,5 +1,5 @@
--- `alf_validate_layout::layout::layout_tables_fault` meets its contract: where cause 5 does not apply, each map is as long as the grid calls for.
--- Assumes nothing.
+-- `alf_validate_layout::layout::layout_tables_fault` meets its contract: where cause 5 does not apply, each map is as long as the grid
+-- calls for. Assumes nothing.
 use borrow.Author.Needs.{needs}
 use Rattle.alf_spec.proofs.Tests.{and-same}
 use Rattle.alf_spec.proofs.Faults.{stops, goes}

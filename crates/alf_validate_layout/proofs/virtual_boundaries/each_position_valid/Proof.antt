@@ -1,4 +1,5 @@
--- `alf_validate_layout::virtual_boundaries::each_position_valid` meets its contract: the loop has tested what is behind it. Assumes nothing.
+-- `alf_validate_layout::virtual_boundaries::each_position_valid` meets its contract: the loop has tested what is behind it. Assumes
+-- nothing.
 use Prim.Native.Nat.{_-_}
 use borrow.Author.Needs.{needs}
 use lib.ListN.{length, getD}

@@ -1,4 +1,5 @@
--- `alf_validate_layout::virtual_boundaries::virtual_boundaries_valid` meets its contract: the grid's CTB size is the picture's. Assumes nothing.
+-- `alf_validate_layout::virtual_boundaries::virtual_boundaries_valid` meets its contract: the grid's CTB size is the picture's. Assumes
+-- nothing.
 use borrow.Author.Needs.{needs}
 use Rattle.alf_validate_layout.proofs.Layouts.{virtual-valid}
 use Rattle.alf_validate_layout.proofs.virtual_boundaries.virtual_boundaries_valid.Statement.{statement}

@@ -1,4 +1,5 @@
--- `alf_validate_tables::operation_lengths::plane_fits` meets its contract: the product of two numbers below 2^32 is below 2^64. Assumes nothing.
+-- `alf_validate_tables::operation_lengths::plane_fits` meets its contract: the product of two numbers below 2^32 is below 2^64. Assumes
+-- nothing.
 use native.Mathlib.Nat.{div-le-self}
 use native.Mathlib.Omega.{arith}
 use borrow.Author.Needs.{needs}

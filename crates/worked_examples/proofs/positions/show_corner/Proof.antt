@@ -1,5 +1,5 @@
--- `worked_examples::positions::show_corner` meets its contract: the picture is accepted, the tables have its grid's lengths, and the copy of the last
--- CTB's one piece is of 14 by 14 samples. Assumes nothing.
+-- `worked_examples::positions::show_corner` meets its contract: the picture is accepted, the tables have its grid's lengths, and the copy
+-- of the last CTB's one piece is of 14 by 14 samples. Assumes nothing.
 use mathlib.Core.Path.{_≡_, refl, sym}
 use mathlib.Core.Bool.{true, false}
 use mathlib.Core.List.{[], _∷_}
@@ -81,7 +81,8 @@ last-columns : (c : tie.After-column-piece) → Last (c .column-piece .result)
 last-columns c =
     let g : tie.After-grid = search needs in
     let h = g .grid .ensures in
-    let t = turn (columns-regular h sizes log2 no-boundaries 1) whole walk-none (h .ctbHigh) (walk-start {x = 32} (omega (arith, side _ h)) (omega (arith, side _ h)))
+    let t = turn (columns-regular h sizes log2 no-boundaries 1) whole walk-none (h .ctbHigh)
+    (walk-start {x = 32} (omega (arith, side _ h)) (omega (arith, side _ h)))
     (omega (arith, side _ h)) (c .column-piece .ensures) in
     record { is = t .facts .numbers; begins = t .start }
 
@@ -89,7 +90,8 @@ last-rows : (c : tie.After-row-piece) → Last (c .row-piece .result)
 last-rows c =
     let g : tie.After-grid = search needs in
     let h = g .grid .ensures in
-    let t = turn (rows-regular h sizes log2 no-boundaries 4 1) whole walk-luma (h .ctbHigh) (walk-start {x = 32} (omega (arith, side _ h)) (omega (arith, side _ h)))
+    let t = turn (rows-regular h sizes log2 no-boundaries 4 1) whole walk-luma (h .ctbHigh)
+    (walk-start {x = 32} (omega (arith, side _ h)) (omega (arith, side _ h)))
     (omega (arith, side _ h)) (c .row-piece .ensures) in
     record { is = t .facts .numbers; begins = t .start }
 
@@ -148,6 +150,11 @@ show-corner-spec =
     (λ c. search needs)
     (λ c.
     let copied = c .before .before in
-    omega (arith, copied .extent .ensures, pitch-small (last-columns (copied .before .before .before .before .before .before .before .before .before .before))))
+    omega (
+      arith,
+      copied .extent .ensures,
+      pitch-small
+          (last-columns (copied .before .before .before .before .before .before .before .before .before .before)),
+    ))
     (λ c κs. search needs)
     (λ c. search needs))
