@@ -1,4 +1,4 @@
--- `alf_class_map::class_ctb` meets its contract: the strips above y are classified. Assumes nothing.
+-- `alf_class_map::ctbs::class_ctb` meets its contract: the strips above y are classified. Assumes nothing.
 use mathlib.Core.Path.{_≡_, refl, ap, _∙_}
 use mathlib.Core.Logic.{inr}
 use Prim.Native.Nat.{ℕ, _+_, _-_, _*_, _/_, min, _≤_}
@@ -19,8 +19,8 @@ use Rattle.alf_pieces.proofs.CtbPieces.{row-piece}
 use Rattle.alf_lists.proofs.PaintedRects.{paint-stacked}
 use Rattle.alf_pieces.proofs.PieceWalk.{walk-luma, Walk, walk-start, walk-next, walk-done, Turn, turn, turn-less, block-piece, rows-regular}
 use Rattle.alf_class_map.proofs.ClassWorks.{work-same}
-use Rattle.alf_class_map.proofs.class_ctb.Statement.{statement}
-use Rattle.alf_class_map.proofs.class_ctb.Tie as tie
+use Rattle.alf_class_map.proofs.ctbs.class_ctb.Statement.{statement}
+use Rattle.alf_class_map.proofs.ctbs.class_ctb.Tie as tie
 
 abbrev Inv-loop : tie.InvT-loop
 Inv-loop picture grid virtual-columns virtual-rows ctb sides luma copy₀ differences₀ map₀ top bottom y₀ copy differences map y =

@@ -1,4 +1,4 @@
--- `alf_class_map::class_address` meets its contract: the CTB's blocks are a rectangle of the map. Assumes nothing.
+-- `alf_class_map::map::class_address` meets its contract: the CTB's blocks are a rectangle of the map. Assumes nothing.
 use mathlib.Core.Path.{refl}
 use borrow.Author.Needs.{needs}
 use Rattle.alf_spec.specs.Input.{Layout, layoutOf}
@@ -7,8 +7,8 @@ use Rattle.alf_boundary.proofs.CtbAddresses.{ctb-in-grid}
 use Rattle.alf_pieces.proofs.CtbPieces.{ctb-accepted}
 use Rattle.alf_pieces.proofs.CtbRegions.{ctb-painted}
 use Rattle.alf_class_map.proofs.ClassWorks.{whole-blocks, accepted-classes, map-length, ctb-given}
-use Rattle.alf_class_map.proofs.class_address.Statement.{statement}
-use Rattle.alf_class_map.proofs.class_address.Tie as tie
+use Rattle.alf_class_map.proofs.map.class_address.Statement.{statement}
+use Rattle.alf_class_map.proofs.map.class_address.Tie as tie
 
 -- the layout that it is given
 abbrev layout : tie.Start → Layout

@@ -1,4 +1,4 @@
--- `alf_class_map::class_strip` meets its contract: the pieces of columns before x are classified. Assumes nothing.
+-- `alf_class_map::ctbs::class_strip` meets its contract: the pieces of columns before x are classified. Assumes nothing.
 use mathlib.Core.Path.{_≡_, refl, ap, _∙_}
 use mathlib.Core.Logic.{inl}
 use Prim.Native.Nat.{ℕ, _-_, _*_, _/_, _≤_}
@@ -22,8 +22,8 @@ use Rattle.alf_lists.proofs.PaintedRects.{paint-beside}
 use Rattle.alf_pieces.proofs.PieceWalk.{walk-none, Walk, walk-start, walk-next, walk-done, Turn, turn, turn-less, block-piece}
 use Rattle.alf_pieces.proofs.PieceWalk.{columns-regular}
 use Rattle.alf_class_map.proofs.ClassWorks.{work-same}
-use Rattle.alf_class_map.proofs.class_strip.Statement.{statement}
-use Rattle.alf_class_map.proofs.class_strip.Tie as tie
+use Rattle.alf_class_map.proofs.ctbs.class_strip.Statement.{statement}
+use Rattle.alf_class_map.proofs.ctbs.class_strip.Tie as tie
 
 abbrev Inv-loop : tie.InvT-loop
 Inv-loop picture grid virtual-columns ctb sides rows luma copy₀ differences₀ map₀ left right x₀ copy differences map x =

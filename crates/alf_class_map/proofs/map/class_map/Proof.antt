@@ -1,4 +1,4 @@
--- `alf_class_map::class_map` meets its contract: the CTBs before address k are classified. Assumes nothing.
+-- `alf_class_map::map::class_map` meets its contract: the CTBs before address k are classified. Assumes nothing.
 use mathlib.Core.Path.{_≡_, sym}
 use Prim.Native.Nat.{zero, _-_, _*_, _≤_}
 use native.Mathlib.Nat.{le-antisymm}
@@ -15,8 +15,8 @@ use Rattle.alf_pieces.specs.CtbRegions.{beforeCtb}
 use Rattle.alf_lists.proofs.Painted.{Paint, paint-none}
 use Rattle.alf_pieces.proofs.CtbRegions.{no-ctb, all-painted}
 use Rattle.alf_class_map.proofs.ClassWorks.{whole-blocks, accepted-classes, map-length, next-classified}
-use Rattle.alf_class_map.proofs.class_map.Statement.{statement}
-use Rattle.alf_class_map.proofs.class_map.Tie as tie
+use Rattle.alf_class_map.proofs.map.class_map.Statement.{statement}
+use Rattle.alf_class_map.proofs.map.class_map.Tie as tie
 
 abbrev Inv-loop : tie.InvT-loop
 Inv-loop picture virtual-columns virtual-rows tile-columns tile-rows slice-map subpic-map subpic-across luma map₀ grid total

@@ -1,4 +1,4 @@
--- `alf_class_map::class_piece` meets its contract: the copy holds the windows of the piece's blocks. Assumes nothing.
+-- `alf_class_map::ctbs::class_piece` meets its contract: the copy holds the windows of the piece's blocks. Assumes nothing.
 use mathlib.Core.Path.{refl}
 use Prim.Native.Nat.{_≤_}
 use borrow.Author.Needs.{needs}
@@ -10,8 +10,8 @@ use Rattle.alf_pieces.proofs.CopyRooms.{copy-fits, rows-fit}
 use Rattle.alf_classify.proofs.PieceRows.{blocks}
 use Rattle.alf_classify.proofs.PieceClasses.{class-same}
 use Rattle.alf_class_map.proofs.ClassWorks.{own-map}
-use Rattle.alf_class_map.proofs.class_piece.Statement.{statement}
-use Rattle.alf_class_map.proofs.class_piece.Tie as tie
+use Rattle.alf_class_map.proofs.ctbs.class_piece.Statement.{statement}
+use Rattle.alf_class_map.proofs.ctbs.class_piece.Tie as tie
 
 copy-piece-requires : tie.Need-copy-piece-requires
 copy-piece-requires c κs =
