@@ -1,13 +1,13 @@
 // The operations on a picture, each from its own crate. None asks anything of its caller: each judges what it is given, then works.
 mod numbers;
 
+pub use alf_boundary::causes::cause_number;
 pub use alf_op_causes::clip_causes;
 pub use alf_op_chroma::chroma;
 pub use alf_op_classes::classes;
 pub use alf_op_cross::cross_component;
 pub use alf_op_isolated::isolated;
 pub use alf_op_luma::luma;
-pub use numbers::cause_number;
 pub use numbers::causes_number;
 pub use numbers::fault_number;
 pub use numbers::isolation_number;

@@ -1,8 +1,7 @@
-// The number of paper 01's table for each answer, and of each cause of paper 02's first card.
+// The number of paper 01's table for each answer.
 ghost use mathlib.Core.Path.{_≡_};
-ghost use Rattle.alf_spec.specs.Answers.{faultNumber, number as numberOf, isolationNumber as isolationNumberOf, causesNumber, causeNumber};
+ghost use Rattle.alf_spec.specs.Answers.{faultNumber, number as numberOf, isolationNumber as isolationNumberOf, causesNumber};
 use alf_spec::Answer;
-use alf_spec::ClipCause;
 use alf_spec::ClipCauses;
 use alf_spec::Fault;
 use alf_spec::Isolation;
@@ -58,19 +57,5 @@ pub fn causes_number(answer: ClipCauses) -> u8
     match answer {
         ClipCauses::Named(_) => 0,
         ClipCauses::Rejected(fault) => fault_number(fault),
-    }
-}
-
-// 0 to 5
-pub fn cause_number(cause: ClipCause) -> u8
-    ensures { λ r. ⌜ r ≡ causeNumber cause ⌝ }
-{
-    match cause {
-        ClipCause::Open => 0,
-        ClipCause::LineBufferBoundary => 1,
-        ClipCause::VirtualBoundary => 2,
-        ClipCause::Tile => 3,
-        ClipCause::Slice => 4,
-        ClipCause::Subpicture => 5,
     }
 }

@@ -7,7 +7,7 @@ ghost use Rattle.alf_spec.specs.declared.ClipCause.{ClipCause};
 ghost use Rattle.alf_spec.specs.Geometry.{Side, before, after, Axis, lineRule};
 ghost use Rattle.alf_spec.specs.Boundary.{only, _orElse_, near, lineClip, virtualClip, sideClip, clip, causeOf};
 ghost use Rattle.alf_boundary.specs.Clips.{clipOf, sideOf, axisOf, Bounded, InCtb};
-use crate::sides::disables;
+use crate::causes::disables;
 use alf_spec::Clip;
 use alf_spec::ClipCause;
 

@@ -1,5 +1,6 @@
 // Where filtering stops: the sides of a CTB and why filtering across them is disabled, the picture's virtual boundaries, and the clip
 // positions of a sample, each with its cause. All of them equal their definitions of `alf_spec`.
+pub mod causes;
 pub mod clips;
 pub mod sides;
 pub mod virtual_boundaries;

@@ -7,7 +7,6 @@ ghost use lib.Dec.{eqb};
 ghost use lib.ListN.{length, getD};
 ghost use Rattle.alf_spec.specs.declared.ClipCause.the-variants.{Open};
 ghost use Rattle.alf_spec.specs.Input.{layoutOf};
-ghost use Rattle.alf_spec.specs.Boundary.{disables};
 ghost use Rattle.alf_math.specs.Grids.{GridOf};
 ghost use Rattle.alf_boundary.specs.Tables.{TablesOf, SidesOf};
 ghost use Rattle.alf_boundary.specs.Memberships.{InTables, membershipAt, sliceStepDisabled, causeInto};
@@ -17,20 +16,6 @@ use alf_spec::Ctb;
 use alf_spec::Grid;
 use alf_spec::Picture;
 use alf_spec::Sides;
-
-// Whether filtering across a side with this cause is disabled.
-pub fn disables(side: ClipCause) -> bool
-    ensures { λ r. ⌜ r ≡ disables side ⌝ }
-{
-    match side {
-        ClipCause::Open => false,
-        ClipCause::LineBufferBoundary => true,
-        ClipCause::VirtualBoundary => true,
-        ClipCause::Tile => true,
-        ClipCause::Slice => true,
-        ClipCause::Subpicture => true,
-    }
-}
 
 // The tile, the slice and the subpicture of a CTB, and that subpicture's switch.
 struct Membership {

@@ -3,7 +3,7 @@
 ghost use mathlib.Core.Path.{_≡_};
 ghost use Prim.Native.Nat.{_≤_, _<_};
 ghost use Rattle.alf_isolation.specs.Steps.{stepOpen, rowSides, blockSides};
-use alf_boundary::sides::disables;
+use alf_boundary::causes::disables;
 use alf_boundary::virtual_boundaries::is_listed;
 use alf_spec::Sides;
 
