@@ -7,7 +7,7 @@ ghost use Rattle.alf_spec.specs.Lists.{painted};
 ghost use Rattle.alf_spec.specs.Arithmetic.{tapSum};
 ghost use Rattle.alf_lists.specs.Regions.{between};
 ghost use Rattle.alf_taps.specs.Spread.{spreadCoeff, spreadClip, TapNumbers};
-ghost use Rattle.alf_luma.specs.Kernel.{plusSamples, minusSamples, current, filteredAt, rowFrom, RowReads};
+ghost use Rattle.alf_luma.specs.Kernel.{plusSamples, minusSamples, filteredAt, rowFrom, RowReads};
 use alf_math::rounding::filtered;
 use alf_taps::add_tap;
 
@@ -24,8 +24,8 @@ pub struct Starts {
 
 // The twelve taps of (1467), at column x.
 fn luma_sum(copy: &[u16], curr: u16, x: usize, s: Starts, taps: &[i16]) -> i32
-    requires { ⌜ (RowReads (now copy) s (x + 1)) × (TapNumbers (now taps)) × (x < 128) × (curr ≡ current (now copy) s x) ⌝ }
-    ensures { λ r. ⌜ r ≡ tapSum 12 (current (now (copy .entry)) s x) (spreadCoeff (now (taps .entry)) x) (spreadClip (now (taps .entry)) x)
+    requires { ⌜ (RowReads (now copy) s (x + 1)) × (TapNumbers (now taps)) × (x < 128) × (curr < 4096) ⌝ }
+    ensures { λ r. ⌜ r ≡ tapSum 12 curr (spreadCoeff (now (taps .entry)) x) (spreadClip (now (taps .entry)) x)
         (plusSamples (now (copy .entry)) s x) (minusSamples (now (copy .entry)) s x) ⌝ }
 {
     let s0 = add_tap(0, copy, curr, x, s.below3, 3, s.above3, 3, taps, 0);

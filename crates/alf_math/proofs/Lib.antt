@@ -3,3 +3,4 @@ pub mod Gradients
 pub mod Grids
 pub mod Halves
 pub mod Magnitude
+pub mod TapByTap

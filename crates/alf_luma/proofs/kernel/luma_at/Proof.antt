@@ -43,6 +43,6 @@ luma-at-spec =
     (λ c. search needs)
     (λ c. search needs)
     (λ c. search needs)
-    (λ c κs. let s = c .before .before in (s .pre .0, s .pre .1, s .pre .2, refl))
+    (λ c κs. let s = c .before .before in (s .pre .0, s .pre .1, s .pre .2, s .pre .0 .samples _ (omega (arith, s .pre .0))))
     filtered-requires
     returns)
