@@ -3,10 +3,11 @@
  * Every function judges what it is given before it works. It returns 0 where the input is accepted, else the number of the lowest fault
  * that applies (enum alf_fault), and then nothing is written. It asks nothing of its caller but what C itself asks:
  *
- *   - a pointer is good for as many entries as the length beside it says, and aligned for its type; where the length is 0 it is not read;
+ *   - a pointer is good for as many entries as the length beside it says, and aligned for its type; where the length is 0 it is not used
+ *     and may be null. One pointer has no length beside it, alf_isolated's `isolated`: it is good for one byte, and never null;
  *   - an output overlaps no input and no other output;
  *   - a bool is 0 or 1;
- *   - a stack with some 256 KB left.
+ *   - a stack with 384 KB left.
  *
  * Nothing is kept between calls and nothing is allocated; calls from several threads at once do not disturb each other.
  *
@@ -36,9 +37,9 @@
  *                       APS ids of Cb and Cr; an id is 0 to 7, also where it is not used
  *   bank                eight APSs of 752 numbers: 25 luma filters of 12 coefficients and 12 clips; 8 chroma filters of 6 and 6; 4
  *                       cross-component filters of 7 coefficients for Cb, then 4 for Cr. A coefficient is -128 to 127, a clip 0 to 2^B
- *   ctb_params          8 numbers for each CTB: luma, Cb and Cr flags (0 or 1); the luma set (0 to 15 fixed, then 16 up to 15 + the count of
- *                       its slice); Cb's and Cr's alternative (0 to 7); Cb's and Cr's cross-component index (0 off, 1 to 4). Where
- *                       chroma_format is 0, all but the luma flag and the luma set are 0
+ *   ctb_params          8 numbers for each CTB: luma, Cb and Cr flags (0 or 1); the luma set (0 to 15 fixed, then 16 up to 15 + the count
+ *                       of its slice); Cb's and Cr's alternative (0 to 7); Cb's and Cr's cross-component index (0 off, 1 to 4).
+ *                       Where chroma_format is 0, all but the luma flag and the luma set are 0
  *   ctb_list            addresses of CTBs to filter, row by row from 0; any order, repeats and none at all are good
  *
  * Planes are 16-bit samples below 2^B, row by row with no gap between rows. */
@@ -178,8 +179,8 @@ uint8_t alf_chroma(
     const uint16_t *chroma, size_t chroma_length,
     uint16_t *output, size_t output_length);
 
-/* The cross-component filter of a component: output is chroma, which is filtered already, with each listed CTB whose index of that component
- * is not 0 corrected from luma, which is not filtered. Judges as alf_chroma does, and both planes: 1 to 13. */
+/* The cross-component filter of a component: output is chroma, which is filtered already, with each listed CTB whose index of that
+ * component is not 0 corrected from luma, which is not filtered. Judges as alf_chroma does, and both planes: 1 to 13. */
 uint8_t alf_cross_component(
     uint32_t width, uint32_t height, uint8_t ctb_log2, uint8_t bit_depth, uint8_t chroma_format, uint32_t slice_count,
     bool across_tiles, bool across_slices,
@@ -199,9 +200,10 @@ uint8_t alf_cross_component(
     const uint16_t *chroma, size_t chroma_length,
     uint16_t *output, size_t output_length);
 
-/* The isolation test: whether what lies outside the region can have an effect inside it. region has (width/8) * (height/8) numbers, one for
- * each 8 by 8 luma block: 1 inside, 0 outside. *isolated becomes 1 where every step out of the region is closed, else 0; where the number
- * returned is not 0 it stays as it was. Judges the picture, the lengths and the region: 1 to 9 and 14. */
+/* The isolation test: whether what lies outside the region can have an effect inside it. region has (width/8) * (height/8) numbers, one
+ * for each 8 by 8 luma block: 1 inside, 0 outside. *isolated is written only where 0 is returned: it becomes 1 where every step out of
+ * the region is closed, else 0. Where another number is returned it stays as it was, so that it says nothing: look at the number first.
+ * Judges the picture, the lengths and the region: 1 to 9 and 14. */
 uint8_t alf_isolated(
     uint32_t width, uint32_t height, uint8_t ctb_log2, uint8_t bit_depth, uint8_t chroma_format, uint32_t slice_count,
     bool across_tiles, bool across_slices,
@@ -215,12 +217,13 @@ uint8_t alf_isolated(
     const uint8_t *region, size_t region_length,
     uint8_t *isolated);
 
-/* What closes the sides of the luma sample in column x and row y: whether a clip position lies so near to it that the filters stop there, and why.
- * causes has 4 entries, for top, bottom, left and right; each becomes an enum alf_clip_cause. Where the number returned is not 0 they stay as they
- * were. Where several causes apply, the first counts of: at the top the line-buffer boundary, a virtual boundary, the CTB's side; at the bottom a
- * virtual boundary, the line-buffer boundary, the CTB's side; left and right a virtual boundary, the CTB's side. A CTB's side is closed by a tile
- * before a slice before a subpicture. The picture's rim is open. The line-buffer boundary is luma's, 4 rows above the CTB's bottom, whatever the
- * chroma format is. Judges the picture, the lengths and last the position: 1 to 9 and 15. */
+/* What closes the sides of the luma sample in column x and row y: whether a clip position lies so near to it that the filters stop
+ * there, and why. causes has 4 entries, for top, bottom, left and right; each becomes an enum alf_clip_cause. Where the number returned
+ * is not 0 they stay as they were. Where several causes apply, the first counts of: at the top the line-buffer boundary, a virtual
+ * boundary, the CTB's side; at the bottom a virtual boundary, the line-buffer boundary, the CTB's side; left and right a virtual
+ * boundary, the CTB's side. A CTB's side is closed by a tile before a slice before a subpicture. The picture's rim is open. The
+ * line-buffer boundary is luma's, 4 rows above the CTB's bottom, whatever the chroma format is. Judges the picture, the lengths and
+ * last the position: 1 to 9 and 15. */
 uint8_t alf_clip_causes(
     uint32_t width, uint32_t height, uint8_t ctb_log2, uint8_t bit_depth, uint8_t chroma_format, uint32_t slice_count,
     bool across_tiles, bool across_slices,

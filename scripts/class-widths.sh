@@ -1,7 +1,7 @@
 #!/usr/bin/env bash
-# What decides a class, `class_of_sums` and all that it calls, has no number wider than 32 bits, and its one multiplication is of two u16 (02, card 3).
-# No contract can say this of the code that it stands on, so this reads the code, without comments and contracts. A place in one of the two tables is an
-# address, as wide as the machine has them, and nothing is worked out with it.
+# What decides a class, `class_of_sums` and all that it calls, has no number wider than 32 bits, and its one multiplication is of two
+# u16 (02, card 3). No contract can say this of the code that it stands on, so this reads the code, without comments and contracts. A
+# place in one of the two tables is an address, as wide as the machine has them, and nothing is worked out with it.
 set -u -o pipefail
 cd "$(dirname "$0")/../crates/alf_math/src" || exit 2
 files="direction.rt products.rt"
@@ -14,7 +14,8 @@ wrong() {
     failed=1
 }
 
-code=$(for file in $files; do sed -E 's|//.*||; /^ *(ghost use|requires|ensures) /d' "$file"; done)
+# without comments, and without contracts, each of which ends with a line's ⌝ }
+code=$(for file in $files; do sed -E 's|//.*||; /^ *ghost use /d' "$file" | awk '/^ *(requires|ensures) / { on = 1 } on { if (/⌝ }$/) on = 0; next } 1'; done)
 beyond=$(grep '::' <<< "$code" | grep -vE '^use (alf_spec::[A-Z][a-z]+|crate::(products::product_less|tables::[a-z]+_entry));$')
 wide=$(grep -nE '\b([ui](64|128|size)|f(32|64))\b' <<< "$code")
 factors=$(grep -n '\*' <<< "$code" | grep -vF '(a as u32) * (b as u32)')

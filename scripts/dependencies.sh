@@ -1,6 +1,6 @@
 #!/usr/bin/env bash
-# Prints the lines that crates.txt should have, in its order: for each listed crate those that its code, definitions and proofs name themselves. `rt` finds
-# what these stand on by itself. The kit's libraries count too, but for std, which is never listed.
+# Prints the lines that crates.txt should have, in its order: for each listed crate those that its code, definitions and proofs name
+# themselves. `rt` finds what these stand on by itself. The kit's libraries count too, but for std, which is never listed.
 set -u -o pipefail
 cd "$(dirname "$0")/.." || exit 2
 known=$(sed -n 's/^\([a-z_]*\):.*/\1/p' crates.txt; echo check libc io os bytes)

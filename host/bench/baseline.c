@@ -7,8 +7,8 @@
  *   summed along a row of cells for each block, then over rows of cells.
  * - Then blocks of 4 by 4. For luma the block's class picks coefficients and clips, its transpose their order, and each tap runs over the
  *   four samples of a row. Chroma and cross-component have one filter for a CTB, so they can also go by whole rows of it: BLOCK says which.
- * - The chroma formats share one code. Cross-component, whose inner loop depends on the format, is inlined once for each.
- * - Arithmetic is in int, as decoders have it. With differences and clips in 16 bits, as the library has them, gcc 12 at -O3 made whole rows
+ * - The chroma formats share one code. Cross-component, whose inner loop depends on the format, is inlined once for each. - Arithmetic
+ * is in int, as decoders have it. With differences and clips in 16 bits, as the library has them, gcc 12 at -O3 made whole rows
  *   of chroma about three times and of cross-component one and a half times as quick as here; luma got no quicker.
  *
  * The taps of a block are spelled one after the other, each over four samples, because gcc makes vector code of that where the machine has

@@ -1,8 +1,8 @@
 //! What a chroma format says about the size of the chroma planes.
 use crate::Picture;
 
-/// SubWidthC and SubHeightC: how many luma columns and rows one chroma sample stands for. None where there is no chroma: for luma alone, and for
-/// a number that is no format.
+/// SubWidthC and SubHeightC: how many luma columns and rows one chroma sample stands for. None where there is no chroma: for luma
+/// alone, and for a number that is no format.
 pub const fn chroma_ratio(chroma_format: u8) -> Option<(u32, u32)> {
     match chroma_format {
         1 => Some((2, 2)),

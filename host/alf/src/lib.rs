@@ -1,7 +1,7 @@
 //! The adaptive loop filter of H.266, proved, for Rust: a safe wrapper over `libalf_c.a`.
 //!
-//! Each operation judges what it is given before it works. It asks nothing of its caller: wrong sizes, lengths or numbers are answered with a
-//! [`Fault`], and then every output is left as it was.
+//! Each operation judges what it is given before it works. It asks nothing of its caller: wrong sizes, lengths or numbers are answered
+//! with a [`Fault`], and then every output is left as it was.
 mod cause;
 mod chroma_format;
 mod fault;
@@ -21,8 +21,8 @@ pub struct Picture<'a> {
     pub ctb_log2: u8,
     /// 8 to 12.
     pub bit_depth: u8,
-    /// ChromaArrayType: 0 for luma alone, 1 for 4:2:0, 2 for 4:2:2, 3 for 4:4:4. [`Picture::chroma_width`] and [`Picture::chroma_height`] are the
-    /// size of the chroma planes.
+    /// ChromaArrayType: 0 for luma alone, 1 for 4:2:0, 2 for 4:2:2, 3 for 4:4:4. [`Picture::chroma_width`] and
+    /// [`Picture::chroma_height`] are the size of the chroma planes.
     pub chroma_format: u8,
     /// How many slices have parameters, 1 to 256.
     pub slice_count: u32,
@@ -94,12 +94,17 @@ pub fn cross_component(
 /// Whether the region, one number for each 8 by 8 luma block, 1 inside and 0 outside, is closed on every side.
 pub fn isolated(picture: &Picture, region: &[u8]) -> Result<bool, Fault> {
     let mut answer = 0;
-    Fault::from_answer(ffi::isolated(picture, region, &mut answer))?;
+    isolated_number(picture, region, &mut answer)?;
     Ok(answer == 1)
 }
 
-/// What closes the sides of the luma sample in column `x` and row `y`, as far as its neighbours reach. The line-buffer boundary is luma's, whatever
-/// the chroma format is.
+/// The same by a number, as the C interface has it: `isolated` becomes 1 or 0, and stays as it was where the input is rejected.
+pub fn isolated_number(picture: &Picture, region: &[u8], isolated: &mut u8) -> Result<(), Fault> {
+    Fault::from_answer(ffi::isolated(picture, region, isolated))
+}
+
+/// What closes the sides of the luma sample in column `x` and row `y`, as far as its neighbours reach. The line-buffer boundary is
+/// luma's, whatever the chroma format is.
 pub fn clip_causes(picture: &Picture, x: u32, y: u32) -> Result<ClipCauses, Fault> {
     let mut numbers = [0; 4];
     clip_cause_numbers(picture, x, y, &mut numbers)?;

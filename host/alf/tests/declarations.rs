@@ -1,5 +1,5 @@
-//! The C interface stands in three texts: the Rattle source, which is proved; the C header; the wrapper's declarations. No compiler compares
-//! them, so this does, argument by argument. It also holds the header's numbers, messages and causes to the wrapper's.
+//! The C interface stands in three texts: the Rattle source, which is proved; the C header; the wrapper's declarations. No compiler
+//! compares them, so this does, argument by argument. It also holds the header's numbers, messages and causes to the wrapper's.
 use raspbegonia::{ClipCause, Fault};
 use std::fs;
 use std::path::Path;

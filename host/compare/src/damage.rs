@@ -3,7 +3,8 @@ use crate::input::{Input, Operation};
 use crate::position;
 use crate::random::Random;
 
-/// A way to spoil: the number that it leads to, which operations judge it, and the change. The change returns false where the input has no place for it.
+/// A way to spoil: the number that it leads to, which operations judge it, and the change. The change returns false where the input has
+/// no place for it.
 pub struct Damage {
     pub number: u8,
     pub name: &'static str,
@@ -89,8 +90,8 @@ fn bank_place(random: &mut Random, clip: bool) -> usize {
     }
 }
 
-/// Makes one of four CTBs round a corner differ from the three others, which become equal: one of `which`, where 0 to 3 are upper left, upper
-/// right, lower left and lower right.
+/// Makes one of four CTBs round a corner differ from the three others, which become equal: one of `which`, where 0 to 3 are upper left,
+/// upper right, lower left and lower right.
 fn odd_corner(input: &mut Input, random: &mut Random, map: fn(&mut Input) -> &mut Vec<u8>, which: &[usize]) -> bool {
     let (columns, rows) = (input.columns(), input.rows());
     if columns < 2 || rows < 2 || input.slice_count < 2 {

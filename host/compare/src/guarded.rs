@@ -15,7 +15,8 @@ const WRITE: i32 = 2;
 /// Private and anonymous.
 const FLAGS: i32 = 0x22;
 
-/// Which end of the memory touches an inaccessible page. Both ends are inside such pages; only one can touch, unless the length fills pages.
+/// Which end of the memory touches an inaccessible page. Both ends are inside such pages; only one can touch, unless the length fills
+/// pages.
 #[derive(Clone, Copy, Debug)]
 pub enum Side {
     Before,

@@ -72,7 +72,8 @@ pub fn subpics_can_meet(a: u8, b: u8, c: u8, d: u8) -> bool {
     most != Some(3)
 }
 
-/// A map whose corners are all allowed: CTB by CTB a neighbour's number or any below `numbers`, whichever fits first; none where nothing fits.
+/// A map whose corners are all allowed: CTB by CTB a neighbour's number or any below `numbers`, whichever fits first; none where
+/// nothing fits.
 fn map(random: &mut Random, columns: usize, rows: usize, numbers: u64, allowed: fn(u8, u8, u8, u8) -> bool) -> Option<Vec<u8>> {
     let mut map: Vec<u8> = Vec::with_capacity(columns * rows);
     let change = 1 + random.below(6);

@@ -2,8 +2,8 @@
 use crate::input::Input;
 use crate::random::Random;
 
-/// A column or a row: mostly as near to a CTB's side, its line-buffer boundary or a virtual boundary as that can close a sample's side, or one
-/// sample farther; else any. Columns have no line-buffer boundary; there it is a place like another.
+/// A column or a row: mostly as near to a CTB's side, its line-buffer boundary or a virtual boundary as that can close a sample's side,
+/// or one sample farther; else any. Columns have no line-buffer boundary; there it is a place like another.
 fn near(random: &mut Random, size: u32, ctb: u32, boundaries: &[u16]) -> u32 {
     let side = i64::from(ctb) * random.between(0, i64::from(size.div_ceil(ctb)));
     let anchor = match random.below(4) {

@@ -15,8 +15,8 @@ fn band(boundaries: &[u16], at: usize) -> usize {
     boundaries.iter().filter(|b| usize::from(**b) <= at).count()
 }
 
-/// The region of one slice, tile or subpicture, of a rectangle between virtual boundaries, of some CTBs or of blocks at random. Most are closed
-/// on every side where switches are off; some are not.
+/// The region of one slice, tile or subpicture, of a rectangle between virtual boundaries, of some CTBs or of blocks at random. Most
+/// are closed on every side where switches are off; some are not.
 pub fn some_region(random: &mut Random, input: &Input) -> Vec<u8> {
     let x = random.index(input.width as usize);
     let y = random.index(input.height as usize);

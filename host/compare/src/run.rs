@@ -127,18 +127,24 @@ fn library_in(memory: &Memory, operation: Operation, input: &Input, rejected: bo
         Operation::CrossComponent => memory.call(&input.chroma_output, rejected, |output| {
             raspbegonia::cross_component(&picture, input.component, &parameters, luma, chroma, output)
         }),
-        Operation::Isolated => isolated(&picture, memory.u8s[8].get(), input.isolated),
+        Operation::Isolated => isolated(memory, &picture, input, rejected),
         Operation::ClipCauses => clip_causes(memory, &picture, input, rejected),
     }
 }
 
-/// The wrapper keeps the isolation test's answer for itself; what would stand in a caller's byte follows from it.
-fn isolated(picture: &raspbegonia::Picture, region: &[u8], old: u8) -> Outcome {
-    let answer = raspbegonia::isolated(picture, region);
-    Outcome {
-        number: number(answer.map(|_| ())),
-        output: vec![u16::from(answer.map_or(old, u8::from))],
-    }
+/// The byte that the library is given; and the wrapper's yes or no has to be the same.
+fn isolated(memory: &Memory, picture: &raspbegonia::Picture, input: &Input, rejected: bool) -> Outcome {
+    let region = memory.u8s[8].get();
+    let outcome = memory.call(&[input.isolated], rejected, |byte| {
+        raspbegonia::isolated_number(picture, region, &mut byte[0])
+    });
+    let expected = match outcome.number {
+        0 => Ok(outcome.output == [1]),
+        fault => Err(fault),
+    };
+    let answer = raspbegonia::isolated(picture, region).map_err(|fault| fault.number());
+    assert_eq!(answer, expected, "isolated by yes or no and by number");
+    outcome
 }
 
 /// By numbers; and the wrapper's named causes have to be the same.

@@ -7,9 +7,9 @@ fn number(name: &str) -> Option<u64> {
     Some(text.parse().unwrap_or_else(|_| panic!("{name}={text}: a whole number is wanted")))
 }
 
-/// Calls `case` with a seed each, and prints the seeds. ALF_SEED is the first seed and ALF_CASES how many, where they are given; case k of a run
-/// has the seed first + k, so a case that fails is repeated by its own seed and ALF_CASES=1. Returns whether as many cases were run as the test
-/// means to: only then does it say something that a kind of case did not occur.
+/// Calls `case` with a seed each, and prints the seeds. ALF_SEED is the first seed and ALF_CASES how many, where they are given; case k
+/// of a run has the seed first + k, so a case that fails is repeated by its own seed and ALF_CASES=1. Returns whether as many cases
+/// were run as the test means to: only then does it say something that a kind of case did not occur.
 pub fn run(what: &str, first: u64, meant: u64, mut case: impl FnMut(u64)) -> bool {
     let first = number("ALF_SEED").unwrap_or(first);
     let count = number("ALF_CASES").unwrap_or(meant);

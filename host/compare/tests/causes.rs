@@ -1,5 +1,5 @@
-//! What closes the sides of a sample: many positions of random pictures, and again with each cause taken away. The library's answers equal the
-//! model's everywhere.
+//! What closes the sides of a sample: many positions of random pictures, and again with each cause taken away. The library's answers
+//! equal the model's everywhere.
 use compare::coverage::CauseCoverage;
 use compare::guarded::Side;
 use compare::input::{Input, Operation};

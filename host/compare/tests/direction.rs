@@ -1,5 +1,5 @@
-//! The proved direction test, which multiplies 16 bits by 16, beside multiplications that are wide enough: the comparison of two products of any
-//! 32-bit numbers, the class of any four sums, and what the worked examples print of both.
+//! The proved direction test, which multiplies 16 bits by 16, beside multiplications that are wide enough: the comparison of two
+//! products of any 32-bit numbers, the class of any four sums, and what the worked examples print of both.
 use compare::random::Random;
 use compare::seeds;
 use model::{class_of_sums, Sums};

@@ -15,8 +15,8 @@ fn replace(plane: &mut [u16], with: &[u16], rewritten: impl Fn(usize) -> bool) {
     }
 }
 
-/// Other samples outside the region, other parameters of the CTBs without a sample in it; these listed or not anew; the list in another order
-/// and with repeats.
+/// Other samples outside the region, other parameters of the CTBs without a sample in it; these listed or not anew; the list in another
+/// order and with repeats.
 fn rewritten(input: &Input, random: &mut Random) -> Input {
     let mut other = input.clone();
     let (width, height) = (input.width as usize, input.height as usize);
@@ -62,17 +62,28 @@ struct Seen {
 /// By chroma format, for the filters that work on chroma; first classes and luma, which know no format.
 const SEEN_OF: [&str; 4] = ["classes and luma", "chroma of 4:2:0", "chroma of 4:2:2", "chroma of 4:4:4"];
 
-fn two_runs(seed: u64, seen: &mut [Seen; 4]) {
+/// How many regions were really compared: a region that is empty or the whole picture has no inside, or no outside, and is passed over.
+#[derive(Default)]
+struct Regions {
+    isolated: usize,
+    open: usize,
+    passed_over: usize,
+}
+
+fn two_runs(seed: u64, seen: &mut [Seen; 4], regions: &mut Regions) {
     let mut random = Random::new(seed);
     let ctb_log2 = random.pick(&[5, 5, 6, 7]);
     let chroma_format = random.pick(&CHROMA_FORMATS);
     let input = picture(&mut random, ctb_log2, chroma_format);
     let inside = input.region.iter().filter(|n| **n == 1).count();
     if inside == 0 || inside == input.region.len() {
+        regions.passed_over += 1;
         return;
     }
     let other = rewritten(&input, &mut random);
     let isolated = agreed(Operation::Isolated, &input, Side::After).output == [1];
+    regions.isolated += usize::from(isolated);
+    regions.open += usize::from(!isolated);
     for operation in Operation::WITH_PLANE {
         if operation.has_component() && input.chroma_format == 0 {
             continue;
@@ -97,7 +108,15 @@ fn two_runs(seed: u64, seen: &mut [Seen; 4]) {
 #[test]
 fn rewriting_outside_changes_nothing_inside() {
     let mut seen = [(); 4].map(|()| Seen::default());
-    let whole = seeds::run("isolation", 6_000_000, 5000, |seed| two_runs(seed, &mut seen));
+    let mut regions = Regions::default();
+    let whole = seeds::run("isolation", 6_000_000, 5000, |seed| two_runs(seed, &mut seen, &mut regions));
+    eprintln!(
+        "  isolation: {} regions really compared, {} isolated and {} open; {} passed over, empty or the whole picture",
+        regions.isolated + regions.open,
+        regions.isolated,
+        regions.open,
+        regions.passed_over
+    );
     for (name, seen) in SEEN_OF.iter().zip(&seen) {
         eprintln!(
             "  isolation, {name}: {} runs over isolated regions, {} of them changed outside; {} over open regions, {} of them changed inside",

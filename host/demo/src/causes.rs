@@ -5,8 +5,8 @@ use raspbegonia::{ClipCause, ClipCauses, Fault, Picture};
 /// The answer for every luma sample, row by row.
 pub struct Causes(Vec<ClipCauses>);
 
-/// Neighbouring columns that have the same on both sides of an edge between two rows: what closes the bottom of the upper row and the top of
-/// the lower one. The two differ where only one of two subpictures is closed.
+/// Neighbouring columns that have the same on both sides of an edge between two rows: what closes the bottom of the upper row and the
+/// top of the lower one. The two differ where only one of two subpictures is closed.
 pub struct Run {
     pub first: usize,
     pub last: usize,
@@ -25,8 +25,8 @@ impl Causes {
         self.0[y * WIDTH + x]
     }
 
-    /// What closes the edge above a row, by columns. The row has to be a multiple of 4, as all clip positions are: then a closed bottom of the
-    /// row above and a closed top of this one are closed here, and not some rows farther on.
+    /// What closes the edge above a row, by columns. The row has to be a multiple of 4, as all clip positions are: then a closed bottom
+    /// of the row above and a closed top of this one are closed here, and not some rows farther on.
     pub fn along(&self, row: usize) -> Vec<Run> {
         assert_eq!(row % 4, 0, "no clip position lies above row {row}");
         let mut runs: Vec<Run> = Vec::new();

@@ -22,8 +22,8 @@ impl HardRow {
     }
 }
 
-/// The row, of those that a clip position can lie above, at which the change falls most: what lies beside the edge was changed less than what
-/// lies next to it, so the difference picture has a hard stripe there.
+/// The row, of those that a clip position can lie above, at which the change falls most: what lies beside the edge was changed less
+/// than what lies next to it, so the difference picture has a hard stripe there.
 fn hardest(component: usize, format: Format, before: &[u16], after: &[u16]) -> HardRow {
     let (width, height) = format.size(component);
     // The line-buffer boundary lies four luma rows or two chroma rows above a CTB's end, the others at multiples of 8 luma rows.
@@ -42,7 +42,8 @@ fn hardest(component: usize, format: Format, before: &[u16], after: &[u16]) -> H
         .expect("the picture has more than four rows")
 }
 
-/// Of luma, which is the same in both formats, and of chroma in each. What the cross-component filter adds is left out: it has luma's edges.
+/// Of luma, which is the same in both formats, and of chroma in each. What the cross-component filter adds is left out: it has luma's
+/// edges.
 pub fn all(formats: [&Filtered; 2]) -> Vec<HardRow> {
     let half = formats[0];
     let luma = hardest(Y, half.format, &half.before[Y], &half.outputs.planes[Y]);
