@@ -1,6 +1,5 @@
 -- Laws that the proofs of this crate, and of those above it, cite.
 pub mod ClipRules
-pub mod CtbAddresses
 pub mod CtbSides
 pub mod Lists
 pub mod Tables

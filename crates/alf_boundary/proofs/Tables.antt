@@ -2,7 +2,7 @@
 use mathlib.Core.Path.{_≡_, _∙_, sym, ap}
 use mathlib.Core.Bool.{Bool, true}
 use mathlib.Core.List.{List}
-use Prim.Native.Nat.{ℕ, _+_, _*_, _<_}
+use Prim.Native.Nat.{ℕ, _+_, _*_, _/_, _%_, _<_}
 use lib.Dec.{ltb}
 use lib.ListN.{length}
 use borrow.Author.Tests.{ltb-true}
@@ -13,15 +13,16 @@ use Rattle.alf_spec.specs.Input.{Layout}
 use Rattle.alf_spec.specs.Faults.{subpicturesValid}
 use Rattle.alf_spec.proofs.Tests.{both, every-at}
 use Rattle.alf_spec.proofs.Planes.{place-below}
-use Rattle.alf_spec.proofs.Accepted.{Accepted, table-lengths}
+use Rattle.alf_spec.proofs.Accepted.{AcceptedLayout, table-lengths}
 use Rattle.alf_math.specs.Grids.{GridOf}
 use Rattle.alf_math.proofs.Grids.{grid-columns, grid-rows, grid-total}
+use Rattle.alf_math.proofs.CtbAddresses.{ctb-in-grid}
 use Rattle.alf_boundary.specs.declared.sides.Neighbour.{Neighbour}
 use Rattle.alf_boundary.specs.Tables.{TablesOf}
 use Rattle.alf_boundary.specs.Memberships.{InTables}
 
 -- an accepted layout has the tables of its grid
-pub tables-of : (l : Layout) (g : Grid) → GridOf (l .picture) g → Accepted l
+pub tables-of : (l : Layout) (g : Grid) → GridOf (l .picture) g → AcceptedLayout l
     → TablesOf g (l .tileColumns) (l .tileRows) (l .sliceMap) (l .subpicMap) (l .subpicAcross)
 unfolding subpicturesValid
 tables-of l g h ok =
@@ -34,6 +35,12 @@ tables-of l g h ok =
       switchLength = lengths .subpicAcross;
       subpictures = both (every (λ n. ltb n 64) (l .subpicMap)) _ (ok .subpictures) .0;
     }
+
+-- the CTB at address k of an accepted layout is in the grid, and the tables have its entries
+pub ctb-in-tables : (l : Layout) → AcceptedLayout l → {g : Grid} → GridOf (l .picture) g → (k : ℕ) → k < g .columns * g .rows
+    → (GridOf (l .picture) g) × (TablesOf g (l .tileColumns) (l .tileRows) (l .sliceMap) (l .subpicMap) (l .subpicAcross))
+    × (k % g .columns < g .columns) × (k / g .columns < g .rows)
+ctb-in-tables l ok {g} h k below = let within = ctb-in-grid h k below in (h, tables-of l g h ok, within .0, within .1)
 
 -- the tables of a grid
 module _ {g : Grid} {tileColumns tileRows sliceMap subpicMap subpicAcross : List ℕ}

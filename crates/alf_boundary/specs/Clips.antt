@@ -1,11 +1,10 @@
--- Clip positions as code has them, and the axis that they lie along. Assumes nothing.
+-- Clip positions as code has them. Assumes nothing.
 use mathlib.Core.Path.{_≡_}
 use mathlib.Core.Bool.{Bool, true, false}
-use mathlib.Core.List.{List}
 use mathlib.Core.Option.{Option, some, none, Option·map}
 use Prim.Native.Nat.{ℕ, _*_, _/_, _≤_}
 use Rattle.alf_spec.specs.declared.Clip.{Clip}
-use Rattle.alf_spec.specs.Geometry.{Side, before, after, Axis}
+use Rattle.alf_spec.specs.Geometry.{Side, before, after}
 use Rattle.alf_boundary.specs.declared.clips.FoundClip.{FoundClip}
 use Rattle.alf_boundary.specs.declared.clips.FoundClip.the-variants.{At, Nowhere}
 
@@ -22,16 +21,6 @@ positionOf e = Option·map (λ c. c .position) (clipOf e)
 abbrev pub sideOf : Bool → Side
 sideOf false = before
 sideOf true = after
-
--- the axis with these fields
-abbrev pub axisOf : ℕ → ℕ → List ℕ → ℕ → ℕ → Axis
-axisOf size ctb virtualBoundaries line ratio = record {
-  size = size;
-  ctb = ctb;
-  virtualBoundaries = virtualBoundaries;
-  line = line;
-  ratio = ratio;
-}
 
 -- a CTB's side and a position, as small as 32-bit sums need
 abbrev pub Bounded : ℕ → ℕ → Type 0

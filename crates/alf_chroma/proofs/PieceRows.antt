@@ -13,7 +13,7 @@ use Rattle.alf_spec.specs.declared.Picture.{Picture}
 use Rattle.alf_spec.specs.Geometry.{subWidth, subHeight}
 use Rattle.alf_spec.specs.Chroma.{chromaRows}
 use Rattle.alf_spec.proofs.Tests.{cond-either}
-use Rattle.alf_spec.proofs.IsolatedRegions.Ratios.{Ratio, whole, half, chroma-ratios}
+use Rattle.alf_spec.proofs.Ratios.{Ratio, whole, half, chroma-ratios}
 use Rattle.alf_math.proofs.Grids.{width-bounds, height-bounds, depth-bounds}
 use Rattle.alf_pieces.specs.declared.pieces.Piece.{Piece}
 use Rattle.alf_lists.specs.Regions.{between}

@@ -21,7 +21,7 @@ use Rattle.alf_spec.specs.Process.{atIndex}
 use Rattle.alf_spec.proofs.Tests.{cond-either}
 use Rattle.alf_spec.proofs.Axes.{Regular}
 use Rattle.alf_spec.proofs.LineCrossing.{chroma-read}
-use Rattle.alf_spec.proofs.IsolatedRegions.Ratios.{chroma-ratios}
+use Rattle.alf_spec.proofs.Ratios.{chroma-ratios}
 use Rattle.alf_spec.proofs.IsolatedRegions.TapPositions.{ChromaOffsets, chroma-offsets}
 use Rattle.alf_math.specs.Grids.{GridOf}
 use Rattle.alf_pieces.specs.declared.pieces.Piece.{Piece}

@@ -9,12 +9,11 @@ use Rattle.alf_spec.specs.declared.ChromaRows.{ChromaRows}
 use Rattle.alf_spec.specs.declared.Grid.{Grid}
 use Rattle.alf_spec.specs.declared.Picture.{Picture}
 use Rattle.alf_spec.specs.Input.{Layout}
-use Rattle.alf_spec.specs.Geometry.{Plane, subWidth, subHeight, planeOf, lumaPosition, lineRule, bottomDistance}
+use Rattle.alf_spec.specs.Geometry.{Plane, subWidth, subHeight, planeOf, lumaPosition, lineRule, bottomDistance, axisOf}
 use Rattle.alf_spec.specs.Chroma.{chromaRows}
 use Rattle.alf_spec.specs.Faults.{pictureSizeValid, ctbSizeValid, bitDepthValid}
 use Rattle.alf_math.specs.Grids.{GridOf}
 use Rattle.alf_math.specs.Integers.{CoeffRange, ClipRange}
-use Rattle.alf_boundary.specs.Clips.{axisOf}
 use Rattle.alf_pieces.specs.declared.pieces.Piece.{Piece}
 use Rattle.alf_pieces.specs.Pieces.{PieceIn}
 use Rattle.alf_pieces.specs.Copies.{pitch, copyLength, area}

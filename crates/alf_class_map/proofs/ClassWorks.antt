@@ -13,10 +13,10 @@ use Rattle.alf_spec.specs.Input.{Layout, classes, classesInput}
 use Rattle.alf_spec.specs.Geometry.{ctbSize, planeOf, planeLength, classPlane}
 use Rattle.alf_spec.specs.Process.{classAt}
 use Rattle.alf_spec.specs.Faults.{virtualListValid, fault}
-use Rattle.alf_spec.proofs.Accepted.{Accepted, accepted, lists-valid, luma-length, luma-samples, output-length}
+use Rattle.alf_spec.proofs.Accepted.{AcceptedLayout, accepted, lists-valid, luma-length, luma-samples, output-length}
 use Rattle.alf_math.specs.Grids.{GridOf}
 use Rattle.alf_math.proofs.Grids.{width-bounds, height-bounds, sample-bound}
-use Rattle.alf_boundary.proofs.CtbAddresses.{ctb-in-picture}
+use Rattle.alf_math.proofs.CtbAddresses.{ctb-in-picture}
 use Rattle.alf_pieces.specs.declared.pieces.Piece.{Piece}
 use Rattle.alf_pieces.specs.Pieces.{BlockPiece}
 use Rattle.alf_pieces.specs.Copies.{area}
@@ -55,7 +55,7 @@ whole-blocks b h = omega arith
 
 -- an accepted input of the class map
 module _ (l : Layout) (luma : List ℕ) (n : ℕ) (ok : fault classes (classesInput l luma n) ≡ 0) where
-  pub accepted-classes : Accepted l
+  pub accepted-classes : AcceptedLayout l
   accepted-classes = accepted classes (classesInput l luma n) ok .0
 
   pub map-length : n ≡ planeLength (classPlane l)
@@ -86,7 +86,7 @@ module _ (l : Layout) (luma : List ℕ) (n : ℕ) (ok : fault classes (classesIn
         × (k % g .columns * g .ctb < l .picture .width) × (k / g .columns * g .ctb < l .picture .height)
     ctb-given k below =
         let lists = lists-valid l (accepted-classes .virtualBoundaries) in
-        let begins = ctb-in-picture l accepted-classes grid k below in
+        let begins = ctb-in-picture grid k below in
         (class-work, lists .0, lists .1, begins .0, begins .1)
 
 -- one CTB more is classified

@@ -17,7 +17,7 @@ use Rattle.alf_spec.specs.Padding.{read}
 use Rattle.alf_spec.specs.Classes.{classWindow, classOf, blockClass}
 use Rattle.alf_spec.specs.Process.{classNumber, classAt}
 use Rattle.alf_spec.proofs.Lists.{tabulate-same}
-use Rattle.alf_spec.proofs.IsolatedRegions.Ratios.{whole}
+use Rattle.alf_spec.proofs.Ratios.{whole}
 use Rattle.alf_math.specs.Grids.{GridOf}
 use Rattle.alf_pieces.specs.declared.pieces.Piece.{Piece}
 use Rattle.alf_lists.specs.Regions.{between, inRect}

@@ -6,12 +6,11 @@ use Prim.Native.Nat.{ℕ, _+_, _-_, _*_, _/_, _%_, _≤_}
 use Rattle.alf_spec.specs.declared.Picture.{Picture}
 use Rattle.alf_spec.specs.declared.Grid.{Grid}
 use Rattle.alf_spec.specs.declared.WindowRows.{WindowRows}
-use Rattle.alf_spec.specs.Geometry.{lineRule}
+use Rattle.alf_spec.specs.Geometry.{lineRule, axisOf}
 use Rattle.alf_spec.specs.Classes.{windowRows, classOf}
 use Rattle.alf_spec.specs.Process.{classNumber}
 use Rattle.alf_spec.specs.Faults.{pictureSizeValid, ctbSizeValid, bitDepthValid}
 use Rattle.alf_math.specs.Grids.{GridOf}
-use Rattle.alf_boundary.specs.Clips.{axisOf}
 use Rattle.alf_pieces.specs.declared.pieces.Piece.{Piece}
 use Rattle.alf_pieces.specs.Copies.{extent, pitch, area}
 use Rattle.alf_classify.specs.Windows.{copyWindow}

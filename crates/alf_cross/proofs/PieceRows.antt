@@ -13,7 +13,7 @@ use Rattle.alf_spec.specs.declared.Picture.{Picture}
 use Rattle.alf_spec.specs.Lists.{sumBelowℤ}
 use Rattle.alf_spec.specs.Geometry.{subWidth, subHeight}
 use Rattle.alf_spec.specs.CrossComponent.{crossRows, crossTaps, crossSum, corrected}
-use Rattle.alf_spec.proofs.IsolatedRegions.Ratios.{Ratio, whole, half, chroma-ratios, le-own, lt-own}
+use Rattle.alf_spec.proofs.Ratios.{Ratio, whole, half, chroma-ratios, le-own, lt-own}
 use Rattle.alf_pieces.specs.declared.pieces.Piece.{Piece}
 use Rattle.alf_lists.specs.Regions.{between}
 use Rattle.alf_pieces.specs.Pieces.{BlockPiece}

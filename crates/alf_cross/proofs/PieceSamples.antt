@@ -22,7 +22,7 @@ use Rattle.alf_spec.specs.CrossComponent.{crossRows, crossTaps, crossSum, corre
 use Rattle.alf_spec.specs.Process.{atIndex}
 use Rattle.alf_spec.proofs.Lists.{sum-sameℤ}
 use Rattle.alf_spec.proofs.Axes.{ctb-of}
-use Rattle.alf_spec.proofs.IsolatedRegions.Ratios.{whole, chroma-ratios, le-own, lt-own}
+use Rattle.alf_spec.proofs.Ratios.{whole, chroma-ratios, le-own, lt-own}
 use Rattle.alf_math.specs.Grids.{GridOf}
 use Rattle.alf_pieces.specs.declared.pieces.Piece.{Piece}
 use Rattle.alf_lists.specs.Regions.{between, inRect}

@@ -9,7 +9,7 @@ use lib.ListN.{length, getD, set, length-set}
 use lib.Seq.{getD-set-same, getD-set-other}
 use borrow.Author.Count.{below-more}
 use borrow.Author.Tests.{ne-eqb}
-use Rattle.alf_spec.proofs.IsolatedRegions.Ratios.{Ratio, whole, half}
+use Rattle.alf_spec.proofs.Ratios.{Ratio, whole, half}
 use Rattle.alf_lists.proofs.Regions.{order, row-room}
 use Rattle.alf_cross.specs.Taps.{splitPlace, SplitRow, Split}
 use Rattle.alf_cross.specs.Work.{SmallCopy}

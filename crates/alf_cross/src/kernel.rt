@@ -2,45 +2,17 @@
 // neighbouring places: so LLVM vectorises it.
 ghost use mathlib.Core.Path.{_≡_};
 ghost use mathlib.Core.List.{[], _∷_};
-ghost use Prim.Native.Nat.{ℕ, _+_, _-_, _*_, _^_, _≤_, _<_};
+ghost use Prim.Native.Nat.{ℕ, _+_, _*_, _^_, _≤_, _<_};
 ghost use lib.ListN.{length, getD};
 ghost use lib.IntN.{pos, natAbs, _+ℤ_, _-ℤ_, _*ℤ_};
 ghost use Rattle.alf_spec.specs.Lists.{painted};
-ghost use Rattle.alf_spec.specs.Arithmetic.{clip3, clipSample};
 ghost use Rattle.alf_spec.specs.CrossComponent.{corrected as correctedBy};
 ghost use Rattle.alf_lists.specs.Regions.{between};
 ghost use Rattle.alf_cross.specs.Taps.{Reads, SmallTaps, last, splitSum, rowSample};
+use alf_math::clipping::clip16;
+use alf_math::clipping::half_levels;
+use alf_math::clipping::level16;
 use alf_math::rounding::rounded;
-use alf_math::rounding::top_level;
-
-// Half the levels of a sample: a correction is clipped to it.
-fn half_levels(depth: u32) -> u32
-    requires { ⌜ (1 ≤ depth) × (depth ≤ 12) ⌝ }
-    ensures { λ r. ⌜ (r ≡ 2 ^ (depth - 1)) × (1 ≤ r) × (r ≤ 2048) ⌝ }
-{
-    1 << (depth - 1)
-}
-
-// Clip3( low, high, v ), 16 bits wide: a minimum and a maximum, each one instruction of a vector.
-fn clip16(low: i16, high: i16, v: i16) -> i16
-    ensures { λ r. ⌜ r ≡ clip3 low high v ⌝ }
-{
-    if v < low {
-        low
-    } else if high < v {
-        high
-    } else {
-        v
-    }
-}
-
-// Clip3( 0, ( 1 << BitDepth ) − 1, v )
-fn level16(v: i16, depth: u32) -> u16
-    requires { ⌜ depth ≤ 12 ⌝ }
-    ensures { λ r. ⌜ r ≡ clipSample depth v ⌝ }
-{
-    clip16(0, top_level(depth) as i16, v) as u16
-}
 
 // (1534) to (1536): the current sample, corrected by a sum of taps. What the shift leaves of the sum fits 16 bits.
 fn corrected(curr: u16, sum: i32, depth: u32) -> u16

@@ -17,7 +17,7 @@ use Rattle.alf_spec.specs.Luma.{lumaSample}
 use Rattle.alf_spec.specs.Chroma.{chromaSample}
 use Rattle.alf_spec.specs.CrossComponent.{crossSample}
 use Rattle.alf_spec.specs.Process.{atIndex}
-use Rattle.alf_spec.proofs.IsolatedRegions.Ratios.{Ratio, whole, half, boundary, chroma-ratios}
+use Rattle.alf_spec.proofs.Ratios.{Ratio, whole, half, boundary, chroma-ratios}
 use Rattle.alf_pieces.specs.declared.pieces.Piece.{Piece}
 use Rattle.alf_lists.specs.Regions.{inRect}
 use Rattle.alf_pieces.specs.Pieces.{scaled, PieceOf, PieceIn, BlockPiece, CtbOf}

@@ -2,11 +2,10 @@
 -- the next. Assumes nothing.
 use mathlib.Core.Path.{_≡_, _∙_}
 use mathlib.Core.List.{List}
-use Prim.Native.Nat.{ℕ, _/_, _≤_}
-use native.Mathlib.Omega.{arith}
+use Prim.Native.Nat.{ℕ}
 use lib.IntN.{ℤ}
 use Rattle.alf_spec.specs.declared.Picture.{Picture}
-use Rattle.alf_spec.proofs.IsolatedRegions.Ratios.{Ratio, whole, half, chroma-ratios}
+use Rattle.alf_spec.proofs.Ratios.{Ratio, whole, chroma-ratios}
 use Rattle.alf_pieces.specs.Pieces.{WalkLine}
 use Rattle.alf_pieces.proofs.PieceWalk.{walk-none, walk-luma}
 use Rattle.alf_taps.specs.Spread.{TapNumbers}
@@ -25,11 +24,6 @@ pub walks : (f : Filter) → WalkLine (walkLine f)
 walks Luma = walk-luma
 walks (Chroma component) = walk-none
 walks (CrossComponent component) = walk-luma
-
--- positions in order, in the plane's own samples
-pub own-order : {r : ℕ} → Ratio r → (a b : ℕ) → a ≤ b → a / r ≤ b / r
-own-order whole a b h = omega arith
-own-order half a b h = omega arith
 
 -- lists of the same lengths
 pub rooms-same : {f : Filter} {p : Picture} {copy copy′ differences differences′ output output′ : ℕ} {taps taps′ : List ℤ}

@@ -20,8 +20,8 @@ use Rattle.alf_spec.specs.Faults.{componentValid, filterLengthsValid, fixedLeng
 use Rattle.alf_spec.specs.Faults.{ctbChromaZero, ctbParamsValidAt, parametersValid, bankValid, fixedValid, samplesValid, addressesValid}
 use Rattle.alf_spec.specs.Faults.{unless, layoutFault, tablesFault, fault}
 use Rattle.alf_spec.proofs.Tests.{implied, every-at}
-use Rattle.alf_spec.proofs.Accepted.{Accepted, accepted, passed, component-of, luma-length, chroma-length, luma-samples, chroma-samples}
-use Rattle.alf_spec.proofs.Accepted.{output-length}
+use Rattle.alf_spec.proofs.Accepted.{AcceptedLayout, accepted, passed, component-of, luma-length, chroma-length, luma-samples}
+use Rattle.alf_spec.proofs.Accepted.{chroma-samples, output-length}
 use Rattle.alf_math.specs.Grids.{GridOf}
 use Rattle.alf_math.proofs.Grids.{sample-bound}
 use Rattle.alf_luma.specs.Filters.{Places}
@@ -56,7 +56,7 @@ filters-given (CrossComponent component) = refl
 -- ---- an accepted input
 
 module _ (f : Filter) (i : Input) (ok : fault (operationOf f) i ≡ 0) where
-  pub layout-accepted : Accepted (i .layout)
+  pub layout-accepted : AcceptedLayout (i .layout)
   layout-accepted = accepted (operationOf f) i ok .0
 
   pub output-size : i .outputLength ≡ (i .layout .picture .width / columnRatio f

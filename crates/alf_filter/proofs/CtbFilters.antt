@@ -9,8 +9,8 @@ use Rattle.alf_spec.specs.Lists.{painted}
 use Rattle.alf_spec.specs.Input.{Layout}
 use Rattle.alf_spec.specs.Geometry.{Plane, planeOf}
 use Rattle.alf_spec.specs.Process.{outputPlane}
-use Rattle.alf_spec.proofs.Accepted.{Accepted}
-use Rattle.alf_spec.proofs.IsolatedRegions.Ratios.{Ratio, whole, half}
+use Rattle.alf_spec.proofs.Accepted.{AcceptedLayout}
+use Rattle.alf_spec.proofs.Ratios.{Ratio, whole, half}
 use Rattle.alf_math.specs.Grids.{GridOf}
 use Rattle.alf_lists.specs.Regions.{inRect}
 use Rattle.alf_pieces.specs.CtbRegions.{ofCtb}
@@ -25,7 +25,7 @@ pub whole-samples : {r : ℕ} → Ratio r → (b : ℕ) → b % 8 ≡ 0 → b / 
 whole-samples whole b h = omega arith
 whole-samples half b h = omega arith
 
-pub ctb-done : (f : Filter) (l : Layout) → Accepted l → {g : Grid} → GridOf (l .picture) g → (old : List ℕ) {new : List ℕ}
+pub ctb-done : (f : Filter) (l : Layout) → AcceptedLayout l → {g : Grid} → GridOf (l .picture) g → (old : List ℕ) {new : List ℕ}
     → length old ≡ (l .picture .width / columnRatio f (l .picture)) * (l .picture .height / rowRatio f (l .picture)) → (v : ℕ → ℕ) (k : ℕ)
     → new ≡ painted old (inRect (l .picture .width / columnRatio f (l .picture))
     (k % g .columns * g .ctb / columnRatio f (l .picture))

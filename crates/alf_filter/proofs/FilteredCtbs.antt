@@ -10,8 +10,8 @@ use Rattle.alf_spec.specs.Input.{Layout, Input}
 use Rattle.alf_spec.specs.Geometry.{Plane, planeOf, planeLength, columnOf, rowOf, ctbAt, ctbTotal, ctbOf}
 use Rattle.alf_spec.specs.Process.{isFiltered, outputPlane}
 use Rattle.alf_spec.proofs.Planes.{address-ctb}
-use Rattle.alf_spec.proofs.Accepted.{Accepted}
-use Rattle.alf_spec.proofs.IsolatedRegions.Ratios.{Ratio}
+use Rattle.alf_spec.proofs.Accepted.{AcceptedLayout}
+use Rattle.alf_spec.proofs.Ratios.{Ratio}
 use Rattle.alf_pieces.specs.CtbRegions.{addressAt, ofCtb, beforeCtb}
 use Rattle.alf_pieces.proofs.CtbRegions.{no-ctb, next-ctb, column-in, row-in, every-ctb}
 use Rattle.alf_lists.proofs.Painted.{paint-is, paint-of, paint-none, paint-same}
@@ -38,7 +38,7 @@ and-if true b c e = e refl
 and-if false b c e = refl
 
 -- a plane with these ratios to luma, of an accepted layout
-module _ (i : Input) (ok : Accepted (i .layout)) (columnRatio rowRatio line : ℕ) (wholeColumns : (b : ℕ) → b % 8 ≡ 0
+module _ (i : Input) (ok : AcceptedLayout (i .layout)) (columnRatio rowRatio line : ℕ) (wholeColumns : (b : ℕ) → b % 8 ≡ 0
     → b / columnRatio * columnRatio ≡ b)
     (wholeRows : (b : ℕ) → b % 8 ≡ 0 → b / rowRatio * rowRatio ≡ b) (on : Ctb → Bool) where
   abbrev l : Layout
@@ -77,7 +77,7 @@ module _ (i : Input) (ok : Accepted (i .layout)) (columnRatio rowRatio line : �
 
 -- ---- in the plane of a filter
 
-module _ (f : Filter) (i : Input) (ok : Accepted (i .layout)) (on : Ctb → Bool) where
+module _ (f : Filter) (i : Input) (ok : AcceptedLayout (i .layout)) (on : Ctb → Bool) where
   abbrev ratios : Ratio (columnRatio f (i .layout .picture)) × Ratio (rowRatio f (i .layout .picture))
   ratios = filter-ratios f (i .layout .picture)
 

@@ -10,7 +10,7 @@ use Rattle.alf_spec.specs.Geometry.{Side, before, next, samples, planeOf, lumaP
 use Rattle.alf_spec.specs.Isolation.{columnStep, rowStep, diagonalStep, inside, staysInside, isolated}
 use Rattle.alf_spec.specs.Faults.{isolationFault}
 use Rattle.alf_spec.proofs.Tests.{both, implied, imply, same-test, all-at, at-all}
-use Rattle.alf_spec.proofs.Accepted.{Accepted, accepted-layout}
+use Rattle.alf_spec.proofs.Accepted.{AcceptedLayout, accepted-layout}
 use Rattle.alf_spec.proofs.Axes.{regular-columns, regular-rows}
 use Rattle.alf_spec.proofs.IsolatedRegions.EightSteps.{Eight, eight-steps, test-eight}
 use Rattle.alf_spec.proofs.IsolatedRegions.Held.{Held, held-column, held-row, held-diagonal}
@@ -19,7 +19,7 @@ use Rattle.alf_isolation.proofs.BlockEdges.{edge-block, edge-below, edg
 
 -- ---- from samples to blocks
 
-module _ (l : Layout) (ok : Accepted l) (region : List ℕ) (iso : isolated l region ≡ true) (x y : ℕ)
+module _ (l : Layout) (ok : AcceptedLayout l) (region : List ℕ) (iso : isolated l region ≡ true) (x y : ℕ)
     (column : x < samples (blockPlane l .columns)) (row : y < samples (blockPlane l .rows)) (here : blockInside l region x y ≡ true) where
   -- the block's corner samples are in the region
   held : (d e : Side) → Held l region (edge d x) (edge e y)
@@ -48,7 +48,7 @@ module _ (l : Layout) (ok : Accepted l) (region : List ℕ) (iso : isolated l re
 
 -- ---- from blocks to samples
 
-module _ (l : Layout) (ok : Accepted l) where
+module _ (l : Layout) (ok : AcceptedLayout l) where
   -- of the row a column step depends on the CTB alone
   column-row : (x y v : ℕ) → y / 8 ≡ v / 8 → (d : Side) → columnStep l x y d ≡ columnStep l x v d
   unfolding columnStep planeOf
@@ -59,7 +59,7 @@ module _ (l : Layout) (ok : Accepted l) where
   unfolding rowStep planeOf
   row-column x u y q e = rw (same-ctb (lumaPlane l .columns) (regular-columns l ok 1 1 4) refl x u q)
 
-module _ (l : Layout) (ok : Accepted l) (region : List ℕ) (x y : ℕ) (here : blockInside l region (x / 8) (y / 8) ≡ true)
+module _ (l : Layout) (ok : AcceptedLayout l) (region : List ℕ) (x y : ℕ) (here : blockInside l region (x / 8) (y / 8) ≡ true)
     (block : blockStays l region (x / 8) (y / 8) ≡ true) where
   block-steps : Eight (λ d. columnStep l (edge d (x / 8)) (edge before (y / 8)) d) (λ d. blockInside l region (next d (x / 8)) (y / 8))
       (λ e. rowStep l (edge before (x / 8)) (edge e (y / 8)) e) (λ e. blockInside l region (x / 8) (next e (y / 8)))
@@ -97,7 +97,7 @@ module _ (l : Layout) (ok : Accepted l) (region : List ℕ) (x y : ℕ) (here : 
 -- ---- both ways
 
 module _ (l : Layout) (region : List ℕ) (accepted : isolationFault l region ≡ 0) where
-  ok : Accepted l
+  ok : AcceptedLayout l
   ok = accepted-layout l region accepted
 
   to-blocks : isolated l region ≡ true → blocksPass l region ≡ true

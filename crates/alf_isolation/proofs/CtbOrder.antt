@@ -13,7 +13,7 @@ use Rattle.alf_spec.specs.Isolation.{isolated}
 use Rattle.alf_spec.specs.Faults.{isolationFault}
 use Rattle.alf_spec.proofs.Tests.{same-test, all-at, at-all}
 use Rattle.alf_spec.proofs.Planes.{address-below, address-ctb}
-use Rattle.alf_spec.proofs.Accepted.{Accepted, accepted-layout}
+use Rattle.alf_spec.proofs.Accepted.{AcceptedLayout, accepted-layout}
 use Rattle.alf_spec.proofs.Axes.{Regular, regular-columns, regular-rows}
 use Rattle.alf_spec.proofs.IsolatedRegions.Steps.{ctb-below}
 use Rattle.alf_isolation.specs.Blocks.{blocksPass, blocksIn, ctbPasses}
@@ -46,7 +46,7 @@ module _ (a : Axis) where
 -- ---- CTB by CTB
 
 module _ (l : Layout) (region : List ℕ) (accepted : isolationFault l region ≡ 0) where
-  ok : Accepted l
+  ok : AcceptedLayout l
   ok = accepted-layout l region accepted
 
   to-ctbs : blocksPass l region ≡ true → allBelow (ctbTotal l) (λ k. ctbPasses l region (ctbOf l k)) ≡ true

@@ -17,7 +17,7 @@ use Rattle.alf_spec.specs.Boundary.{disables, sliceOf, sliceDisables, stepCause
 use Rattle.alf_spec.specs.Boundary.{rowDisabled, cornerDisabled}
 use Rattle.alf_spec.specs.Isolation.{openStep, columnStep, rowStep, diagonalStep}
 use Rattle.alf_spec.proofs.Tests.{both, all-same}
-use Rattle.alf_spec.proofs.Accepted.{Accepted}
+use Rattle.alf_spec.proofs.Accepted.{AcceptedLayout}
 use Rattle.alf_spec.proofs.Causes.{not-disabled}
 use Rattle.alf_spec.proofs.Axes.{regular-columns, regular-rows}
 use Rattle.alf_isolation.specs.Blocks.{edge, blockInside, blockStays, blockPasses, blocksIn, ctbPasses}
@@ -110,7 +110,7 @@ module _ (columns x y : ℕ) (h : x < columns) where
   index-lower-right = omega arith
 
 -- of the block x, y in the CTB c
-module _ (l : Layout) (ok : Accepted l) (c : Ctb) (x y : ℕ)
+module _ (l : Layout) (ok : AcceptedLayout l) (c : Ctb) (x y : ℕ)
     (inColumn : (d : Side) → edge d x / ctbSize (l .picture) ≡ c .column) (inRow : (e : Side)
     → edge e y / ctbSize (l .picture) ≡ c .row) where
   own-ctb : (d e : Side) → ctbAt (lumaPlane l) (edge d x) (edge e y) ≡ c
@@ -261,7 +261,7 @@ edge-ctb ctb q i ctb8 h d = div-eq-of-lt-le ctb (low d) (high d)
     high after = omega (arith, whole)
 
 -- the code's test of a CTB is that of its blocks
-pub ctb-by-sides : (l : Layout) → Accepted l → (region : List ℕ) (c : Ctb) (s : Sides) → SidesOf l c s
+pub ctb-by-sides : (l : Layout) → AcceptedLayout l → (region : List ℕ) (c : Ctb) (s : Sides) → SidesOf l c s
     → ctbTest (l .picture) (ctbSize (l .picture)) (l .virtualColumns) (l .virtualRows) region c s ≡ ctbPasses l region c
 unfolding planeOf ctbTest rowTest ctbPasses blocksIn blocksAlong
 ctb-by-sides l ok region c s sides =

@@ -10,12 +10,13 @@ use Rattle.alf_spec.specs.Input.{Layout}
 use Rattle.alf_spec.specs.Geometry.{planeOf}
 use Rattle.alf_spec.specs.Isolation.{isolated}
 use Rattle.alf_spec.specs.Faults.{isolationFault}
-use Rattle.alf_spec.proofs.Accepted.{Accepted, accepted-layout, accepted-region}
+use Rattle.alf_spec.proofs.Accepted.{AcceptedLayout, accepted-layout, accepted-region}
 use Rattle.alf_spec.proofs.Axes.{regular-columns, regular-rows}
 use Rattle.alf_math.specs.Grids.{GridOf}
 use Rattle.alf_math.proofs.Grids.{width-bounds, height-bounds, grid-columns, grid-total}
 use Rattle.alf_boundary.specs.Tables.{TablesOf, SidesOf}
-use Rattle.alf_boundary.proofs.CtbAddresses.{ctb-in-grid, ctb-in-picture}
+use Rattle.alf_math.proofs.CtbAddresses.{ctb-in-picture}
+use Rattle.alf_boundary.proofs.Tables.{ctb-in-tables}
 use Rattle.alf_isolation.specs.Blocks.{ctbPasses}
 use Rattle.alf_isolation.specs.Steps.{ctbTest, addressPasses, BlocksOf}
 use Rattle.alf_isolation.proofs.CtbOrder.{isolated-by-ctbs}
@@ -23,7 +24,7 @@ use Rattle.alf_isolation.proofs.CtbSteps.{ctb-by-sides}
 
 -- of an accepted layout and region
 module _ (l : Layout) (region : List ℕ) (accepted : isolationFault l region ≡ 0) (g : Grid) (h : GridOf (l .picture) g) where
-  ok : Accepted l
+  ok : AcceptedLayout l
   ok = accepted-layout l region accepted
 
   blocks-of : BlocksOf (l .picture) (g .ctb) region
@@ -48,12 +49,12 @@ module _ (l : Layout) (region : List ℕ) (accepted : isolationFault l region �
     -- it is in the grid, and the tables have its entries
     pub in-grid : (GridOf (l .picture) g) × (TablesOf g (l .tileColumns) (l .tileRows) (l .sliceMap) (l .subpicMap) (l .subpicAcross))
         × (k % g .columns < g .columns) × (k / g .columns < g .rows)
-    in-grid = ctb-in-grid l ok h k below
+    in-grid = ctb-in-tables l ok h k below
 
     -- it begins in the picture, and the region has its blocks
     pub in-region : (BlocksOf (l .picture) (g .ctb) region)
         × (k % g .columns * g .ctb < l .picture .width) × (k / g .columns * g .ctb < l .picture .height)
-    in-region = let begin = ctb-in-picture l ok h k below in (blocks-of, begin .0, begin .1)
+    in-region = let begin = ctb-in-picture h k below in (blocks-of, begin .0, begin .1)
 
     -- the code's answer for a CTB with these sides
     pub address-passes : {s : Sides} → SidesOf l (record { column = k % g .columns; row = k / g .columns }) s → {r : Bool}

@@ -22,7 +22,7 @@ use Rattle.alf_spec.specs.Classes.{classOf, blockClass}
 use Rattle.alf_spec.specs.Luma.{lumaF, lumaC, tapOrder, lumaPlus, lumaMinus, lumaRowsAt, lumaRead, lumaWith, lumaSample}
 use Rattle.alf_spec.specs.Process.{classNumber, atIndex}
 use Rattle.alf_spec.proofs.TapOrder.{each-below}
-use Rattle.alf_spec.proofs.IsolatedRegions.Ratios.{whole}
+use Rattle.alf_spec.proofs.Ratios.{whole}
 use Rattle.alf_spec.proofs.IsolatedRegions.TapPositions.{LumaOffsets, luma-offsets}
 use Rattle.alf_math.specs.Grids.{GridOf}
 use Rattle.alf_pieces.specs.declared.pieces.Piece.{Piece}

@@ -10,13 +10,12 @@ use Rattle.alf_spec.specs.declared.Grid.{Grid}
 use Rattle.alf_spec.specs.declared.Class.{Class}
 use Rattle.alf_spec.specs.declared.LumaRows.{LumaRows}
 use Rattle.alf_spec.specs.Arithmetic.{tapSum, filtered}
-use Rattle.alf_spec.specs.Geometry.{lineRule}
+use Rattle.alf_spec.specs.Geometry.{lineRule, axisOf}
 use Rattle.alf_spec.specs.Classes.{classOf}
 use Rattle.alf_spec.specs.Luma.{tapOrder, lumaRows}
 use Rattle.alf_spec.specs.Process.{classNumber}
 use Rattle.alf_spec.specs.Faults.{pictureSizeValid, ctbSizeValid, bitDepthValid}
 use Rattle.alf_math.specs.Grids.{GridOf}
-use Rattle.alf_boundary.specs.Clips.{axisOf}
 use Rattle.alf_pieces.specs.declared.pieces.Piece.{Piece}
 use Rattle.alf_pieces.specs.Pieces.{BlockPiece}
 use Rattle.alf_pieces.specs.Copies.{extent, pitch, copyLength, area}

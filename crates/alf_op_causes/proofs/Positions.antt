@@ -9,13 +9,13 @@ use Rattle.alf_spec.specs.declared.Ctb.{Ctb}
 use Rattle.alf_spec.specs.declared.Grid.{Grid}
 use Rattle.alf_spec.specs.declared.Sides.{Sides}
 use Rattle.alf_spec.specs.Input.{Layout}
-use Rattle.alf_spec.specs.Geometry.{Side, before, after, Axis, ctbSize, planeOf, lumaPlane, ctbAt}
+use Rattle.alf_spec.specs.Geometry.{Side, before, after, Axis, ctbSize, planeOf, lumaPlane, ctbAt, axisOf}
 use Rattle.alf_spec.specs.Boundary.{columnSide, rowSide, clip, causeOf}
 use Rattle.alf_spec.specs.Causes.{columnCause, rowCause, causesAt}
-use Rattle.alf_spec.proofs.Accepted.{Accepted}
+use Rattle.alf_spec.proofs.Accepted.{AcceptedLayout}
 use Rattle.alf_math.specs.Grids.{ctbsAlong, GridOf}
 use Rattle.alf_math.proofs.Grids.{width-bounds, height-bounds}
-use Rattle.alf_boundary.specs.Clips.{axisOf, InCtb}
+use Rattle.alf_boundary.specs.Clips.{InCtb}
 use Rattle.alf_boundary.specs.Tables.{TablesOf, SidesOf}
 use Rattle.alf_boundary.proofs.Tables.{tables-of}
 
@@ -23,7 +23,7 @@ use Rattle.alf_boundary.proofs.Tables.{tables-of}
 in-along : (s n x : ℕ) {count : ℕ} → 0 < s → count ≡ (n + (s - 1)) / s → x < n → x / s < count
 in-along s n x positive e h = rw e (le-div-iff-mul-le {k = s} {x = suc (x / s)} positive .1 (omega (arith, div-mul-le-self x s)))
 
-module _ (l : Layout) (ok : Accepted l) {g : Grid} (h : GridOf (l .picture) g) (x y : ℕ) (column : x < l .picture .width)
+module _ (l : Layout) (ok : AcceptedLayout l) {g : Grid} (h : GridOf (l .picture) g) (x y : ℕ) (column : x < l .picture .width)
     (row : y < l .picture .height) where
   -- the position's CTB
   abbrev pub own : Ctb

@@ -15,7 +15,7 @@ ghost use Rattle.alf_params.specs.Numbers.{copiedFrom, fixedNumber};
 use crate::entries::ctb_number;
 use crate::entries::slice_number;
 use alf_lists::fill;
-use alf_math::rounding::top_level;
+use alf_math::clipping::top_level;
 
 // An APS has 752 numbers: 600 for luma, then the chroma alternatives, and from 696 on the cross-component filters.
 const APS: usize = 752;

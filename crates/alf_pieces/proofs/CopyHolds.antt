@@ -12,7 +12,7 @@ use Rattle.alf_spec.specs.Input.{Layout}
 use Rattle.alf_spec.specs.Geometry.{planeOf, samples}
 use Rattle.alf_spec.specs.Boundary.{columnSide, rowSide}
 use Rattle.alf_spec.specs.Padding.{read}
-use Rattle.alf_spec.proofs.IsolatedRegions.Ratios.{Ratio}
+use Rattle.alf_spec.proofs.Ratios.{Ratio}
 use Rattle.alf_pieces.specs.declared.pieces.Piece.{Piece}
 use Rattle.alf_lists.specs.Regions.{between}
 use Rattle.alf_pieces.specs.Pieces.{WalkLine, PieceOf, CtbOf}

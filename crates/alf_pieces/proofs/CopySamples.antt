@@ -9,7 +9,7 @@ use Rattle.alf_spec.specs.declared.Sides.{Sides}
 use Rattle.alf_spec.specs.Lists.{painted}
 use Rattle.alf_spec.specs.Geometry.{Axis}
 use Rattle.alf_spec.proofs.Planes.{place-below, place-column, place-row}
-use Rattle.alf_spec.proofs.IsolatedRegions.Ratios.{Ratio}
+use Rattle.alf_spec.proofs.Ratios.{Ratio}
 use Rattle.alf_spec.proofs.IsolatedRegions.Reach.{reach-luma, reach-window, reach-chroma}
 use Rattle.alf_pieces.specs.declared.pieces.Piece.{Piece}
 use Rattle.alf_lists.specs.Regions.{between}

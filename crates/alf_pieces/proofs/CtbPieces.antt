@@ -8,22 +8,21 @@ use Rattle.alf_spec.specs.declared.Grid.{Grid}
 use Rattle.alf_spec.specs.declared.Picture.{Picture}
 use Rattle.alf_spec.specs.declared.Sides.{Sides}
 use Rattle.alf_spec.specs.Input.{Layout}
-use Rattle.alf_spec.specs.Geometry.{ctbSize, planeOf}
+use Rattle.alf_spec.specs.Geometry.{ctbSize, planeOf, axisOf}
 use Rattle.alf_spec.specs.Boundary.{columnSide, rowSide}
 use Rattle.alf_spec.specs.Faults.{sizeValid, ctbSizeValid, virtualListValid}
-use Rattle.alf_spec.proofs.Accepted.{Accepted, sizes-valid, lists-valid}
+use Rattle.alf_spec.proofs.Accepted.{AcceptedLayout, sizes-valid, lists-valid}
 use Rattle.alf_spec.proofs.Axes.{Regular, regular}
-use Rattle.alf_spec.proofs.IsolatedRegions.Ratios.{Ratio}
+use Rattle.alf_spec.proofs.Ratios.{Ratio}
 use Rattle.alf_math.specs.Grids.{GridOf}
 use Rattle.alf_math.proofs.Grids.{ctb-bounds}
-use Rattle.alf_boundary.specs.Clips.{axisOf}
 use Rattle.alf_boundary.specs.Tables.{SidesOf}
 use Rattle.alf_pieces.specs.declared.pieces.Piece.{Piece}
 use Rattle.alf_pieces.specs.Pieces.{either, WalkLine, PieceOf, CtbOf}
 use Rattle.alf_pieces.proofs.PieceFacts.{Facts, piece-facts}
 use Rattle.alf_pieces.proofs.PieceWalk.{walk-none, same-piece}
 
-pub ctb-accepted : {l : Layout} → Accepted l → {c : Ctb} {s : Sides} → SidesOf l c s → CtbOf l (l .picture) c s
+pub ctb-accepted : {l : Layout} → AcceptedLayout l → {c : Ctb} {s : Sides} → SidesOf l c s → CtbOf l (l .picture) c s
 ctb-accepted ok sides = record {
   picture = refl;
   sizes = ok .sizes;

@@ -18,9 +18,9 @@ use Rattle.alf_spec.specs.Geometry.{Axis, Plane, samples, lumaPosition, planeOf
 use Rattle.alf_spec.specs.Geometry.{ctbRows, ctbTotal}
 use Rattle.alf_spec.proofs.Tests.{never, same-test, one-of}
 use Rattle.alf_spec.proofs.Planes.{place-column, place-row, column-below, row-below, address-below}
-use Rattle.alf_spec.proofs.Accepted.{Accepted}
+use Rattle.alf_spec.proofs.Accepted.{AcceptedLayout}
 use Rattle.alf_spec.proofs.Axes.{Regular, lower, upper, ctb-of, not-gt, regular-columns, regular-rows}
-use Rattle.alf_spec.proofs.IsolatedRegions.Ratios.{own-le, lt-own}
+use Rattle.alf_spec.proofs.Ratios.{own-le, lt-own}
 use Rattle.alf_spec.proofs.IsolatedRegions.Steps.{ctb-below}
 use Rattle.alf_math.specs.Grids.{GridOf}
 use Rattle.alf_math.proofs.Grids.{grid-columns, grid-total}
@@ -66,7 +66,7 @@ module _ (a : Axis) (ok : Regular a) (q : ℕ) where
 
 -- ---- in a plane with these ratios to luma
 
-module _ (l : Layout) (ok : Accepted l) (columnRatio rowRatio line : ℕ) (wholeColumns : Whole columnRatio)
+module _ (l : Layout) (ok : AcceptedLayout l) (columnRatio rowRatio line : ℕ) (wholeColumns : Whole columnRatio)
     (wholeRows : Whole rowRatio) where
   abbrev plane : Plane
   plane = planeOf l columnRatio rowRatio line

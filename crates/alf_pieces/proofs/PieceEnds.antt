@@ -15,7 +15,7 @@ use Rattle.alf_spec.specs.Boundary.{linePosition}
 use Rattle.alf_spec.specs.Padding.{isNone}
 use Rattle.alf_spec.proofs.Lists.{mem-elem, elem-mem}
 use Rattle.alf_spec.proofs.Axes.{Regular, ctb-of}
-use Rattle.alf_spec.proofs.IsolatedRegions.Ratios.{LineFits}
+use Rattle.alf_spec.proofs.Ratios.{LineFits}
 use Rattle.alf_spec.proofs.IsolatedRegions.ClipPositions.{Ends, stops, runs, Near, Stop, bound, bound8, Rule, line-rule, virtual-rule}
 use Rattle.alf_spec.proofs.IsolatedRegions.ClipPositions.{side-rule, Found, Clear, clip-found}
 use Rattle.alf_pieces.specs.Pieces.{WalkLine, ctbLimit, ctbLine, runEnd, pieceEnd, Begins, at-side, at-boundary, at-line}

@@ -15,7 +15,7 @@ use Rattle.alf_spec.specs.Padding.{isNone, lowest, limit, clamped, ctbEnd, past
 use Rattle.alf_spec.proofs.Tests.{both, same-test}
 use Rattle.alf_spec.proofs.Axes.{Regular, ctb-of}
 use Rattle.alf_spec.proofs.LineCrossing.{inPlane}
-use Rattle.alf_spec.proofs.IsolatedRegions.Ratios.{Ratio, own-le, le-own, own-lt, lt-own, boundary}
+use Rattle.alf_spec.proofs.Ratios.{Ratio, own-le, le-own, own-lt, lt-own, boundary}
 use Rattle.alf_spec.proofs.IsolatedRegions.Reach.{Reach}
 use Rattle.alf_spec.proofs.IsolatedRegions.ClipPositions.{bound, bound-even}
 use Rattle.alf_spec.proofs.IsolatedRegions.PastCtb.{past as past-ctb, beyond}

@@ -10,7 +10,7 @@ use Rattle.alf_spec.specs.Geometry.{Side, before, after, Axis, samples, lumaPos
 use Rattle.alf_spec.specs.Padding.{lowest, limit, clamped}
 use Rattle.alf_spec.proofs.Axes.{not-gt}
 use Rattle.alf_spec.proofs.LineCrossing.{inPlane}
-use Rattle.alf_spec.proofs.IsolatedRegions.Ratios.{Ratio, whole, half, own-le, own-lt}
+use Rattle.alf_spec.proofs.Ratios.{Ratio, whole, half, own-le, own-lt}
 use Rattle.alf_spec.proofs.IsolatedRegions.Reach.{Reach}
 use Rattle.alf_pieces.specs.Copies.{held}
 use Rattle.alf_pieces.proofs.PieceClips.{Meets, at-end, open-end, far-end}

@@ -6,11 +6,11 @@ use Prim.Native.Nat.{ℕ, suc, _+_, _-_, _*_, _/_, _≤_, _<_, min}
 use native.Mathlib.Nat.{div-eq-of-lt-le}
 use native.Mathlib.Omega.{arith}
 use Rattle.alf_spec.specs.declared.ClipCause.{ClipCause}
-use Rattle.alf_spec.specs.Geometry.{Side, after, Axis}
+use Rattle.alf_spec.specs.Geometry.{Side, after, Axis, axisOf}
 use Rattle.alf_spec.specs.Boundary.{clip, clipPosition}
 use Rattle.alf_spec.specs.Padding.{isNone}
 use Rattle.alf_boundary.specs.declared.clips.FoundClip.{FoundClip}
-use Rattle.alf_boundary.specs.Clips.{clipOf, positionOf, axisOf}
+use Rattle.alf_boundary.specs.Clips.{clipOf, positionOf}
 use Rattle.alf_pieces.specs.Pieces.{runEnd, pieceEnd}
 
 -- the CTB at place q, in which the block from `end` on lies, is that of its last sample

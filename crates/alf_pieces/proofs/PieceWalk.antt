@@ -8,13 +8,12 @@ use native.Mathlib.Omega.{arith}
 use Rattle.alf_spec.specs.declared.ClipCause.{ClipCause}
 use Rattle.alf_spec.specs.declared.Picture.{Picture}
 use Rattle.alf_spec.specs.declared.Grid.{Grid}
-use Rattle.alf_spec.specs.Geometry.{Side, before, after, Axis, ctbSize, lumaPosition}
+use Rattle.alf_spec.specs.Geometry.{Side, before, after, Axis, ctbSize, lumaPosition, axisOf}
 use Rattle.alf_spec.specs.Faults.{pictureSizeValid, ctbSizeValid, virtualListValid}
 use Rattle.alf_spec.proofs.Accepted.{sizes-valid}
 use Rattle.alf_spec.proofs.Axes.{Regular, regular}
-use Rattle.alf_spec.proofs.IsolatedRegions.Ratios.{Ratio, whole, half, lt-own}
+use Rattle.alf_spec.proofs.Ratios.{Ratio, whole, half, lt-own}
 use Rattle.alf_math.specs.Grids.{GridOf}
-use Rattle.alf_boundary.specs.Clips.{axisOf}
 use Rattle.alf_pieces.specs.declared.pieces.Piece.{Piece}
 use Rattle.alf_pieces.specs.Pieces.{WalkLine, ctbLimit, pieceAt, Begins, at-side, PieceOf, BlockPiece}
 use Rattle.alf_pieces.proofs.PieceFacts.{Facts, piece-facts}

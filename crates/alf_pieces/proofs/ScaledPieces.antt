@@ -7,10 +7,9 @@ use Prim.Native.Nat.{ℕ, zero, suc, pred, _+_, _-_, _*_, _/_}
 use native.Mathlib.Nat.{mul-one, div-one, zero-div}
 use native.Mathlib.Omega.{arith}
 use Rattle.alf_spec.specs.declared.ClipCause.{ClipCause}
-use Rattle.alf_spec.specs.Geometry.{Side, before, after, Axis, lumaPosition}
+use Rattle.alf_spec.specs.Geometry.{Side, before, after, Axis, lumaPosition, axisOf}
 use Rattle.alf_spec.specs.Boundary.{lineClip, virtualClip, sideClip, clip, clipPosition}
 use Rattle.alf_spec.specs.Padding.{isNone, lowest, limit}
-use Rattle.alf_boundary.specs.Clips.{axisOf}
 use Rattle.alf_pieces.specs.declared.pieces.Piece.{Piece}
 use Rattle.alf_pieces.specs.Pieces.{ctbLimit, runEnd, pieceEnd, pieceAt, scaled, Begins, at-side, at-boundary, at-line, PieceOf}
 

@@ -27,7 +27,7 @@ passed true n rest q = (refl, q)
 passed false n rest q = absurd (suc-ne-zero n q)
 
 -- every operation's tests of the layout pass, the isolation test's too
-pub record Accepted (l : Layout) : Type 0 where
+pub record AcceptedLayout (l : Layout) : Type 0 where
   pub sizes : pictureSizeValid (l .picture) ≡ true
   pub ctbSize : ctbSizeValid (l .picture) ≡ true
   pub bitDepth : bitDepthValid (l .picture) ≡ true
@@ -74,7 +74,7 @@ table-lengths l e =
 
 -- what the operation's own tests of 4 and 5 say, too, and that what follows gives no number
 pub chain : (l : Layout) (component lengths : Bool) (rest : ℕ) → layoutFault l component lengths rest ≡ 0
-    → Accepted l × (component ≡ true) × (lengths ≡ true) × (rest ≡ 0)
+    → AcceptedLayout l × (component ≡ true) × (lengths ≡ true) × (rest ≡ 0)
 unfolding layoutFault
 chain l component lengths rest q =
     let p1 = passed (pictureSizeValid (l .picture)) 0 _ q in
@@ -105,12 +105,12 @@ chain l component lengths rest q =
 
 -- an input that an operation accepts
 pub accepted : (op : Operation) (i : Input) → fault op i ≡ 0
-    → Accepted (i .layout) × (componentValid op (i .layout .picture) ≡ true) × (lengthsValid op i ≡ true) × (tablesFault op i ≡ 0)
+    → AcceptedLayout (i .layout) × (componentValid op (i .layout .picture) ≡ true) × (lengthsValid op i ≡ true) × (tablesFault op i ≡ 0)
 unfolding fault
 accepted op i q = chain (i .layout) (componentValid op (i .layout .picture)) (lengthsValid op i) (tablesFault op i) q
 
 -- a layout that the isolation test accepts
-pub accepted-layout : (l : Layout) (region : List ℕ) → isolationFault l region ≡ 0 → Accepted l
+pub accepted-layout : (l : Layout) (region : List ℕ) → isolationFault l region ≡ 0 → AcceptedLayout l
 unfolding isolationFault
 accepted-layout l region q = chain l true (regionLengthValid l region) (unless (regionValid region) 14 0) q .0
 
@@ -120,7 +120,7 @@ unfolding isolationFault regionLengthValid
 accepted-region l region q = eqb-true (length region) _ (chain l true (regionLengthValid l region) (unless (regionValid region) 14 0) q .2)
 
 -- a layout of which the causes at a luma position are named, and the position
-pub accepted-position : (l : Layout) (x y : ℕ) → causesFault l true x y ≡ 0 → Accepted l × (x < l .picture .width)
+pub accepted-position : (l : Layout) (x y : ℕ) → causesFault l true x y ≡ 0 → AcceptedLayout l × (x < l .picture .width)
     × (y < l .picture .height)
 unfolding causesFault positionValid
 accepted-position l x y q =

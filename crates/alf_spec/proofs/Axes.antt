@@ -17,7 +17,7 @@ use Rattle.alf_spec.specs.Input.{Layout}
 use Rattle.alf_spec.specs.Geometry.{Axis, ctbSize, planeOf, ctbStart, inCtb}
 use Rattle.alf_spec.specs.Faults.{sizeValid, ctbSizeValid, virtualPositionValid, apartAt, virtualListValid}
 use Rattle.alf_spec.proofs.Tests.{both, within-bounds, every-mem}
-use Rattle.alf_spec.proofs.Accepted.{Accepted, sizes-valid, lists-valid}
+use Rattle.alf_spec.proofs.Accepted.{AcceptedLayout, sizes-valid, lists-valid}
 
 pub not-gt : {a b : ℕ} → ¬ (b < a) → a ≤ b
 not-gt h = omega arith
@@ -89,7 +89,7 @@ regular p c size list line ratio s v = record {
   virtual8 = virtual-of size (ctbSize p) list v;
 }
 
-module _ (l : Layout) (ok : Accepted l) (columnRatio rowRatio line : ℕ) where
+module _ (l : Layout) (ok : AcceptedLayout l) (columnRatio rowRatio line : ℕ) where
   pub regular-columns : Regular (planeOf l columnRatio rowRatio line .columns)
   unfolding planeOf
   regular-columns =

@@ -10,7 +10,6 @@ pub mod EightSteps
 pub mod Held
 pub mod Inside
 pub mod PastCtb
-pub mod Ratios
 pub mod Reach
 pub mod Reads
 pub mod RegionsAccepted

@@ -10,6 +10,7 @@ pub mod IsolatedRegions
 pub mod LineCrossing
 pub mod Lists
 pub mod Planes
+pub mod Ratios
 pub mod Rejections
 pub mod Scans
 pub mod SmallPictures

@@ -24,8 +24,8 @@ use Rattle.alf_spec.specs.Padding.{pastCorner, paddedColumn, paddedRow, 
 use Rattle.alf_spec.specs.Chroma.{chromaRows, chromaRowsAt, chromaRead}
 use Rattle.alf_spec.proofs.Tests.{both}
 use Rattle.alf_spec.proofs.Axes.{Regular, upper, parts}
-use Rattle.alf_spec.proofs.IsolatedRegions.Ratios.{Ratio, whole, half, LineFits, no-line, chroma-ratios, chroma-line, own-le, own-lt}
-use Rattle.alf_spec.proofs.IsolatedRegions.Ratios.{lt-own}
+use Rattle.alf_spec.proofs.Ratios.{Ratio, whole, half, LineFits, no-line, chroma-ratios, chroma-line, own-le, own-lt}
+use Rattle.alf_spec.proofs.Ratios.{lt-own}
 use Rattle.alf_spec.proofs.IsolatedRegions.Clamping.{low, kept}
 use Rattle.alf_spec.proofs.IsolatedRegions.ClipPositions.{Ends, stops, runs, Near, near-yes, Found, clip-found, bound8}
 

@@ -20,7 +20,7 @@ use Rattle.alf_spec.specs.Isolation.{isolated, outputInside}
 use Rattle.alf_spec.proofs.Lists.{tabulate-at, tabulate-length, painted-length}
 use Rattle.alf_spec.proofs.Accepted.{accepted, component-of, luma-length, chroma-length}
 use Rattle.alf_spec.proofs.IsolatedRegions.Inside.{Inside, SameInside, luma-ctb, luma-inside}
-use Rattle.alf_spec.proofs.IsolatedRegions.Ratios.{whole, chroma-ratios, luma-line, chroma-line}
+use Rattle.alf_spec.proofs.Ratios.{whole, chroma-ratios, luma-line, chroma-line}
 use Rattle.alf_spec.proofs.IsolatedRegions.Reach.{SameReads}
 use Rattle.alf_spec.proofs.IsolatedRegions.Reads.{same-reads}
 use Rattle.alf_spec.proofs.IsolatedRegions.Samples.{same-class, atLayout, SameFilters, same-luma, same-chroma, same-cross}

@@ -44,6 +44,16 @@ pub record Axis : Type 0 where
   -- luma samples to one of the plane's own: 1, or SubWidthC or SubHeightC
   pub ratio : ℕ
 
+-- the axis with these fields
+abbrev pub axisOf : ℕ → ℕ → List ℕ → ℕ → ℕ → Axis
+axisOf size ctb virtualBoundaries line ratio = record {
+  size = size;
+  ctb = ctb;
+  virtualBoundaries = virtualBoundaries;
+  line = line;
+  ratio = ratio;
+}
+
 -- the axis has a line-buffer boundary in each CTB
 abbrev pub hasLine : Axis → Bool
 hasLine a = ltb 0 (a .line)
@@ -72,20 +82,8 @@ lineRows scaleHeight = 2 * scaleHeight
 -- the picture's axes, for a plane with these ratios to luma, and with the line so many luma rows above a CTB's bottom
 unfoldable pub planeOf : Layout → ℕ → ℕ → ℕ → Plane
 planeOf l columnRatio rowRatio line = record {
-  columns = record {
-    size = l .picture .width;
-    ctb = ctbSize (l .picture);
-    virtualBoundaries = l .virtualColumns;
-    line = 0;
-    ratio = columnRatio;
-  };
-  rows = record {
-    size = l .picture .height;
-    ctb = ctbSize (l .picture);
-    virtualBoundaries = l .virtualRows;
-    line = line;
-    ratio = rowRatio;
-  };
+  columns = axisOf (l .picture .width) (ctbSize (l .picture)) (l .virtualColumns) 0 columnRatio;
+  rows = axisOf (l .picture .height) (ctbSize (l .picture)) (l .virtualRows) line rowRatio;
 }
 
 -- the luma plane: ratio 1. For it, for classes and for what the cross-component filter reads scaleHeight is 2 (8.8.5.2, 8.8.5.3, 8.8.5.7),

@@ -18,7 +18,7 @@ use Rattle.alf_spec.specs.Answers.{number}
 use Rattle.alf_spec.specs.Faults.{bitDepthValid, layoutLengthsValid, filterLengthsValid, cornersValid, sliceCorner, slicesValid}
 use Rattle.alf_spec.specs.Faults.{layoutFault}
 use Rattle.alf_spec.proofs.Tests.{and-same, both}
-use Rattle.alf_spec.proofs.Accepted.{Accepted, table-lengths, chain}
+use Rattle.alf_spec.proofs.Accepted.{AcceptedLayout, table-lengths, chain}
 use Rattle.alf_spec.proofs.Faults.{layout-leaves, layout-goes}
 use Rattle.alf_math.proofs.Grids.{few-in-layout}
 use Rattle.alf_validate_tables.specs.Tables.{mapLayout, tablesInput, filterTablesFault, TablesFit}
@@ -31,7 +31,7 @@ beside true b c f = f refl
 beside false b c f = refl
 
 -- what an accepted layout and the lengths of a filter's tables say
-tables-fit : (i : Input) → Accepted (i .layout) → filterLengthsValid i ≡ true
+tables-fit : (i : Input) → AcceptedLayout (i .layout) → filterLengthsValid i ≡ true
     → TablesFit (i .layout .picture) (i .layout .sliceMap) (i .sliceParams) (i .ctbParams)
 unfolding filterLengthsValid slicesValid planeOf
 tables-fit i ok lengths =
@@ -55,7 +55,7 @@ tables-fit i ok lengths =
 -- the code has the layout's answer a
 module _ (l : Layout) (component lengths : Bool) (a : Answer) (judged : number a ≡ layoutFault l component lengths 0)
     (told : a ≡ answer.Accepted) where
-  passed : Accepted l × (component ≡ true) × (lengths ≡ true)
+  passed : AcceptedLayout l × (component ≡ true) × (lengths ≡ true)
   passed = let p = chain l component lengths 0 (sym judged ∙ ap number told) in (p .0, p .1, p .2)
 
   pub depth-of : bitDepthValid (l .picture) ≡ true

@@ -11,7 +11,7 @@ use Rattle.alf_spec.specs.Geometry.{Side, before, after, Axis, samples, 
 use Rattle.alf_spec.specs.Boundary.{disables, clipPosition}
 use Rattle.alf_spec.specs.Padding.{lowest, limit, clamped, pastCtb}
 use Rattle.alf_spec.proofs.Axes.{not-gt, Regular}
-use Rattle.alf_spec.proofs.IsolatedRegions.Ratios.{Ratio, LineFits, own-le, le-own, own-lt, lt-own, Toward, toward-luma}
+use Rattle.alf_spec.proofs.Ratios.{Ratio, LineFits, own-le, le-own, own-lt, lt-own, Toward, toward-luma}
 use Rattle.alf_spec.proofs.IsolatedRegions.Reach.{Reach}
 use Rattle.alf_spec.proofs.IsolatedRegions.ClipPositions.{Ends, stops, runs, Near, Stop, bound, bound8, Free, clip-ends}
 use Rattle.alf_spec.proofs.IsolatedRegions.PastCtb.{Between, leaves, past}

@@ -18,7 +18,7 @@ use Rattle.alf_spec.specs.Boundary.{disables, only, _orElse_, find, near
 use Rattle.alf_spec.specs.Boundary.{clipPosition}
 use Rattle.alf_spec.proofs.Tests.{both, and-no}
 use Rattle.alf_spec.proofs.Axes.{Regular, lower, upper, parts}
-use Rattle.alf_spec.proofs.IsolatedRegions.Ratios.{LineFits}
+use Rattle.alf_spec.proofs.Ratios.{LineFits}
 
 -- ---- options
 

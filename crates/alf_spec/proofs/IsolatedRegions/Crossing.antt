@@ -12,7 +12,7 @@ use Rattle.alf_spec.specs.Geometry.{Side, before, after, sameSide, next,
 use Rattle.alf_spec.specs.Boundary.{sliceDisables, columnDisabled, rowDisabled, cornerDisabled}
 use Rattle.alf_spec.specs.Isolation.{openStep, columnStep, rowStep, diagonalStep, isolated}
 use Rattle.alf_spec.proofs.Tests.{and-no}
-use Rattle.alf_spec.proofs.Accepted.{Accepted}
+use Rattle.alf_spec.proofs.Accepted.{AcceptedLayout}
 use Rattle.alf_spec.proofs.Axes.{Regular, regular-columns, regular-rows}
 use Rattle.alf_spec.proofs.IsolatedRegions.Cells.{Cell, Closed, walk}
 use Rattle.alf_spec.proofs.IsolatedRegions.Steps.{open-step, next-ctb}
@@ -56,7 +56,7 @@ diagonal-step : (l : Layout) (d e : Side) (m n : ℕ) → columnStep l m n d ≡
 unfolding diagonalStep planeOf
 diagonal-step l d e m n q q′ f = simp (q, q′, mul-one m, mul-one n, mul-one (next d m), mul-one (next e n), not-corner d e _ f)
 
-module _ (l : Layout) (ok : Accepted l) (columnRatio rowRatio line : ℕ) where
+module _ (l : Layout) (ok : AcceptedLayout l) (columnRatio rowRatio line : ℕ) where
   abbrev columns : Axis
   columns = planeOf l columnRatio rowRatio line .columns
 

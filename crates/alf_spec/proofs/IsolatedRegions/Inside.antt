@@ -9,7 +9,7 @@ use lib.ListN.{getD}
 use Rattle.alf_spec.specs.Input.{Layout}
 use Rattle.alf_spec.specs.Geometry.{Plane, planeOf, lumaPlane, samples, lumaPosition, indexOf, ctbAt}
 use Rattle.alf_spec.specs.Isolation.{inside}
-use Rattle.alf_spec.proofs.IsolatedRegions.Ratios.{lt-own}
+use Rattle.alf_spec.proofs.Ratios.{lt-own}
 
 -- 01: "Inside are the samples that lie in a block whose area byte is 1", "A chroma sample lies where twice its place lies" (02, card 4: its
 -- place times the ratios): the plane's sample at column x and row y

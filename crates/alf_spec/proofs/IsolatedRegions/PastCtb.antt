@@ -9,7 +9,7 @@ use Rattle.alf_spec.specs.Geometry.{Side, before, after, Axis, lumaPosit
 use Rattle.alf_spec.specs.Padding.{ctbEnd, pastCtb}
 use Rattle.alf_spec.proofs.Axes.{not-gt, Regular, lower, upper, ctb-of, past-end}
 use Rattle.alf_spec.proofs.IsolatedRegions.Cells.{Cell, part}
-use Rattle.alf_spec.proofs.IsolatedRegions.Ratios.{Ratio, boundary, own-lt, lt-own, last-own, last-in, Toward}
+use Rattle.alf_spec.proofs.Ratios.{Ratio, boundary, own-lt, lt-own, last-own, last-in, Toward}
 use Rattle.alf_spec.proofs.IsolatedRegions.ClipPositions.{bound, bound-even}
 use Rattle.alf_spec.proofs.IsolatedRegions.Ways.{outermost}
 

@@ -6,7 +6,7 @@ use native.Mathlib.Omega.{arith}
 use Rattle.alf_spec.specs.Input.{Layout}
 use Rattle.alf_spec.specs.Geometry.{Plane, lumaPosition}
 use Rattle.alf_spec.specs.Padding.{read}
-use Rattle.alf_spec.proofs.IsolatedRegions.Ratios.{Ratio, whole, half}
+use Rattle.alf_spec.proofs.Ratios.{Ratio, whole, half}
 use Rattle.alf_spec.proofs.IsolatedRegions.Inside.{Inside}
 
 -- from x a filter may read at p: less than 8 away, and no multiple of 4 stands between the two that the rules for clip positions do not see

@@ -13,18 +13,18 @@ use Rattle.alf_spec.specs.Padding.{isNone, ctbEnd, pastCtb, columnClip, 
 use Rattle.alf_spec.specs.Padding.{paddedRow, read}
 use Rattle.alf_spec.specs.Isolation.{isolated}
 use Rattle.alf_spec.proofs.Tests.{both, and-no}
-use Rattle.alf_spec.proofs.Accepted.{Accepted}
+use Rattle.alf_spec.proofs.Accepted.{AcceptedLayout}
 use Rattle.alf_spec.proofs.Axes.{Regular, regular-columns, regular-rows}
 use Rattle.alf_spec.proofs.IsolatedRegions.Clamping.{guarded, crossed}
 use Rattle.alf_spec.proofs.IsolatedRegions.PastCtb.{past-other, past-side, end-cell}
-use Rattle.alf_spec.proofs.IsolatedRegions.Ratios.{Ratio, LineFits, no-line, own-lt, lt-own, Toward}
+use Rattle.alf_spec.proofs.Ratios.{Ratio, LineFits, no-line, own-lt, lt-own, Toward}
 use Rattle.alf_spec.proofs.IsolatedRegions.Crossing.{arrive}
 use Rattle.alf_spec.proofs.IsolatedRegions.Held.{Held}
 use Rattle.alf_spec.proofs.IsolatedRegions.Inside.{Inside, SameInside}
 use Rattle.alf_spec.proofs.IsolatedRegions.Reach.{Reach, SameReads}
 use Rattle.alf_spec.proofs.IsolatedRegions.Ways.{Guarded, Way, here, over, way}
 
-module _ (l : Layout) (ok : Accepted l) (region : List ℕ) (iso : isolated l region ≡ true) (columnRatio rowRatio line : ℕ)
+module _ (l : Layout) (ok : AcceptedLayout l) (region : List ℕ) (iso : isolated l region ≡ true) (columnRatio rowRatio line : ℕ)
     (rc : Ratio columnRatio) (rr : Ratio rowRatio) (rl : LineFits line) where
   abbrev g : Plane
   g = planeOf l columnRatio rowRatio line

@@ -21,7 +21,7 @@ use Rattle.alf_spec.proofs.Lists.{tabulate-same, Each, map-same}
 use Rattle.alf_spec.proofs.IsolatedRegions.Inside.{Inside, SameInside, luma-inside}
 use Rattle.alf_spec.proofs.IsolatedRegions.TapPositions.{Around, here, luma-offsets, luma-taps, chroma-offsets, chroma-taps}
 use Rattle.alf_spec.proofs.IsolatedRegions.TapPositions.{cross-offsets, cross-taps}
-use Rattle.alf_spec.proofs.IsolatedRegions.Ratios.{chroma-ratios}
+use Rattle.alf_spec.proofs.Ratios.{chroma-ratios}
 use Rattle.alf_spec.proofs.IsolatedRegions.Reach.{Reach, reach-luma, reach-window, reach-chroma, SameReads}
 
 -- ---- reads, windows and classes

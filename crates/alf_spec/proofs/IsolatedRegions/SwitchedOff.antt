@@ -15,7 +15,7 @@ use Rattle.alf_spec.specs.Isolation.{isolated, sliceRegion, tileRegion, 
 use Rattle.alf_spec.specs.Faults.{sliceCorner, subpicCorner, cornersValid, slicesValid, subpicturesValid}
 use Rattle.alf_spec.proofs.Tests.{both}
 use Rattle.alf_spec.proofs.Causes.{not-disabled}
-use Rattle.alf_spec.proofs.Accepted.{Accepted}
+use Rattle.alf_spec.proofs.Accepted.{AcceptedLayout}
 use Rattle.alf_spec.proofs.IsolatedRegions.WholeCtbs.{Kept, kept-isolated}
 use Rattle.alf_spec.proofs.IsolatedRegions.CornerRules.{three-alike, slice-corner, subpic-corner}
 
@@ -24,7 +24,7 @@ alike : (same off : Bool) → (not same && off) ≡ false → off ≡ true → s
 alike true off h q = refl
 alike false off h q = sym h ∙ q
 
-module _ (l : Layout) (ok : Accepted l) where
+module _ (l : Layout) (ok : AcceptedLayout l) where
   slice-corners : cornersValid sliceCorner l (l .sliceMap) ≡ true
   unfolding slicesValid
   slice-corners = both (every (λ n. ltb n (l .picture .«slice_count»)) (l .sliceMap)) _ (ok .slices) .1

@@ -11,7 +11,7 @@ use Rattle.alf_spec.specs.Geometry.{Side, before, after, next, gap, Axis
 use Rattle.alf_spec.specs.Isolation.{openStep}
 use Rattle.alf_spec.proofs.Axes.{Regular, lower, upper, ctb-of, past-end, following}
 use Rattle.alf_spec.proofs.IsolatedRegions.Cells.{Clear, Cell, cell-sym}
-use Rattle.alf_spec.proofs.IsolatedRegions.Ratios.{Toward}
+use Rattle.alf_spec.proofs.Ratios.{Toward}
 use Rattle.alf_spec.proofs.IsolatedRegions.Steps.{open-step}
 
 -- u and v, at most 7 apart, stand in two CTBs: e is the last position of the first

@@ -18,7 +18,7 @@ use Rattle.alf_spec.specs.Isolation.{openStep, columnStep, rowStep, diag
 use Rattle.alf_spec.proofs.Tests.{both, imply, at-all}
 use Rattle.alf_spec.proofs.Lists.{tabulate-at}
 use Rattle.alf_spec.proofs.Planes.{index-below, index-column, index-row}
-use Rattle.alf_spec.proofs.Accepted.{Accepted}
+use Rattle.alf_spec.proofs.Accepted.{AcceptedLayout}
 use Rattle.alf_spec.proofs.Axes.{Regular, regular-columns, regular-rows}
 use Rattle.alf_spec.proofs.IsolatedRegions.EightSteps.{test-eight}
 use Rattle.alf_spec.proofs.IsolatedRegions.Steps.{next-below, opened, next-ctb}
@@ -60,7 +60,7 @@ bit : (t : Bool) → eqb (cond t 1 0) 1 ≡ t
 bit true = refl
 bit false = refl
 
-module _ (l : Layout) (ok : Accepted l) (P : Ctb → Bool) where
+module _ (l : Layout) (ok : AcceptedLayout l) (P : Ctb → Bool) where
   -- a sample lies inside exactly when its CTB passes the test
   inside-region : (x y : ℕ) → x < l .picture .width → y < l .picture .height → inside l (regionOf l P) x y ≡ P (ctbAt (lumaPlane l) x y)
   unfolding planeOf inside regionOf
@@ -105,7 +105,7 @@ module _ (l : Layout) (P : Ctb → Bool) (kept : Kept l P) (c : Ctb) (here : P c
   diagonal d e q r (crosses h off) (crosses k off′) slice =
       kept .corner d e c h k slice here (beside d q (crosses h off)) (stacked e r (crosses k off′))
 
-module _ (l : Layout) (ok : Accepted l) (P : Ctb → Bool) (kept : Kept l P) where
+module _ (l : Layout) (ok : AcceptedLayout l) (P : Ctb → Bool) (kept : Kept l P) where
   module _ (x y : ℕ) (column : x < l .picture .width) (row : y < l .picture .height) (here : P (ctbAt (lumaPlane l) x y) ≡ true) where
     abbrev own : Ctb
     own = ctbAt (lumaPlane l) x y

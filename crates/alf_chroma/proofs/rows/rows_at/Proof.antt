@@ -5,8 +5,7 @@ use Prim.Native.Nat.{_*_, _≤_}
 use native.Mathlib.Nat.{mul-le-mul}
 use native.Mathlib.Omega.{arith}
 use borrow.Author.Needs.{needs}
-use Rattle.alf_spec.specs.Geometry.{bottomDistance}
-use Rattle.alf_boundary.specs.Clips.{axisOf}
+use Rattle.alf_spec.specs.Geometry.{bottomDistance, axisOf}
 use Rattle.alf_chroma.proofs.rows.rows_at.Statement.{statement}
 use Rattle.alf_chroma.proofs.rows.rows_at.Tie as tie
 

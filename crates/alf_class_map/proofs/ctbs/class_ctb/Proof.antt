@@ -8,9 +8,9 @@ use borrow.Author.Needs.{needs}
 use lib.ListN.{length}
 use Rattle.alf_spec.specs.Input.{Layout}
 use Rattle.alf_spec.specs.Process.{classAt}
-use Rattle.alf_spec.proofs.IsolatedRegions.Ratios.{whole}
+use Rattle.alf_spec.specs.Geometry.{axisOf}
+use Rattle.alf_spec.proofs.Ratios.{whole}
 use Rattle.alf_math.proofs.Grids.{place-bound, height-bounds}
-use Rattle.alf_boundary.specs.Clips.{axisOf}
 use Rattle.alf_lists.specs.Regions.{inRect}
 use Rattle.alf_pieces.specs.Pieces.{either, CtbOf}
 use Rattle.alf_lists.proofs.Painted.{Paint, paint-is, paint-none}

@@ -2,8 +2,8 @@
 use mathlib.Core.Path.{refl}
 use borrow.Author.Needs.{needs}
 use Rattle.alf_spec.specs.Input.{Layout, layoutOf}
-use Rattle.alf_spec.proofs.Accepted.{Accepted}
-use Rattle.alf_boundary.proofs.CtbAddresses.{ctb-in-grid}
+use Rattle.alf_spec.proofs.Accepted.{AcceptedLayout}
+use Rattle.alf_boundary.proofs.Tables.{ctb-in-tables}
 use Rattle.alf_pieces.proofs.CtbPieces.{ctb-accepted}
 use Rattle.alf_pieces.proofs.CtbRegions.{ctb-painted}
 use Rattle.alf_class_map.proofs.ClassWorks.{whole-blocks, accepted-classes, map-length, ctb-given}
@@ -17,13 +17,13 @@ layout s =
     (s .args .tile-rows .now)
     (s .args .slice-map .now) (s .args .subpic-map .now) (s .args .subpic-across .now)
 
-ok : (s : tie.Start) → Accepted (layout s)
+ok : (s : tie.Start) → AcceptedLayout (layout s)
 ok s = accepted-classes (layout s) _ _ (s .pre .4)
 
 sides-of-requires : tie.Need-sides-of-requires
 sides-of-requires c κs =
     let s = c .before .before .before .before .before .before .before .before .before .before .before .before .before in
-    ctb-in-grid (layout s) (ok s) (s .pre .0) _ (s .pre .1)
+    ctb-in-tables (layout s) (ok s) (s .pre .0) _ (s .pre .1)
 
 -- what the function is given
 abbrev start : tie.After-sides-of → tie.Start

@@ -8,7 +8,7 @@ use lib.ListN.{length, length-replicate}
 use Rattle.alf_spec.specs.Input.{Layout, layoutOf}
 use Rattle.alf_spec.specs.Geometry.{classPlane}
 use Rattle.alf_spec.specs.Process.{classAt, classMap}
-use Rattle.alf_spec.proofs.Accepted.{Accepted}
+use Rattle.alf_spec.proofs.Accepted.{AcceptedLayout}
 use Rattle.alf_math.proofs.Grids.{few-ctbs}
 use Rattle.alf_pieces.specs.Copies.{area}
 use Rattle.alf_pieces.specs.CtbRegions.{beforeCtb}
@@ -39,7 +39,7 @@ layout s =
     (s .args .tile-rows .now)
     (s .args .slice-map .now) (s .args .subpic-map .now) (s .args .subpic-across .now)
 
-ok : (s : tie.Start Inv-loop μ-loop) → Accepted (layout s)
+ok : (s : tie.Start Inv-loop μ-loop) → AcceptedLayout (layout s)
 ok s = accepted-classes (layout s) _ _ (s .pre)
 
 grid-requires : tie.Need-grid-requires Inv-loop μ-loop

@@ -2,7 +2,7 @@
 use mathlib.Core.Path.{refl, _∙_}
 use mathlib.Core.List.{[]}
 use borrow.Author.Needs.{needs}
-use Rattle.alf_boundary.specs.Clips.{axisOf}
+use Rattle.alf_spec.specs.Geometry.{axisOf}
 use Rattle.alf_classify.proofs.blocks.row_window.Statement.{statement}
 use Rattle.alf_classify.proofs.blocks.row_window.Tie as tie
 

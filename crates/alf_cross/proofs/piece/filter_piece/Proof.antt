@@ -5,7 +5,7 @@ use native.Mathlib.Omega.{arith}
 use borrow.Author.Needs.{needs}
 use lib.ListN.{length}
 use Rattle.alf_spec.specs.Geometry.{subWidth}
-use Rattle.alf_spec.proofs.IsolatedRegions.Ratios.{half}
+use Rattle.alf_spec.proofs.Ratios.{half}
 use Rattle.alf_pieces.specs.Copies.{pitch, copyLength}
 use Rattle.alf_lists.proofs.Painted.{paint-is, paint-of, paint-same}
 use Rattle.alf_pieces.proofs.CopySamples.{copy-small}

@@ -5,7 +5,7 @@ use native.Mathlib.Nat.{div-le-self}
 use native.Mathlib.Omega.{arith}
 use borrow.Author.Needs.{needs}
 use Rattle.alf_spec.specs.Geometry.{subWidth, subHeight}
-use Rattle.alf_spec.proofs.IsolatedRegions.Ratios.{chroma-ratios}
+use Rattle.alf_spec.proofs.Ratios.{chroma-ratios}
 use Rattle.alf_math.proofs.Grids.{width-bounds, height-bounds, depth-bounds}
 use Rattle.alf_pieces.specs.Copies.{extent, pitch}
 use Rattle.alf_lists.proofs.Painted.{paint-is, paint-of, paint-same}

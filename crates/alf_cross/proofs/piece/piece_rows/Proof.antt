@@ -6,7 +6,7 @@ use native.Mathlib.Nat.{le-refl, le-antisymm, div-le-self}
 use native.Mathlib.Omega.{arith}
 use borrow.Author.Needs.{needs}
 use Rattle.alf_spec.specs.Geometry.{subWidth, subHeight}
-use Rattle.alf_spec.proofs.IsolatedRegions.Ratios.{chroma-ratios}
+use Rattle.alf_spec.proofs.Ratios.{chroma-ratios}
 use Rattle.alf_math.proofs.Grids.{height-bounds}
 use Rattle.alf_lists.specs.Regions.{inRect}
 use Rattle.alf_pieces.specs.Copies.{extent}

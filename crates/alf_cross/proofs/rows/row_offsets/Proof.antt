@@ -4,7 +4,7 @@ use mathlib.Core.List.{[]}
 use native.Mathlib.Nat.{mod-lt}
 use native.Mathlib.Omega.{arith}
 use borrow.Author.Needs.{needs}
-use Rattle.alf_boundary.specs.Clips.{axisOf}
+use Rattle.alf_spec.specs.Geometry.{axisOf}
 use Rattle.alf_cross.proofs.rows.row_offsets.Statement.{statement}
 use Rattle.alf_cross.proofs.rows.row_offsets.Tie as tie
 

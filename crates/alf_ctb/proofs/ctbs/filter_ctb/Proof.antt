@@ -6,9 +6,9 @@ use native.Mathlib.Nat.{div-one}
 use native.Mathlib.Omega.{arith}
 use borrow.Author.Needs.{needs}
 use lib.ListN.{length}
-use Rattle.alf_spec.proofs.IsolatedRegions.Ratios.{whole}
+use Rattle.alf_spec.proofs.Ratios.{whole, own-order}
 use Rattle.alf_math.proofs.Grids.{place-bound, height-bounds}
-use Rattle.alf_boundary.specs.Clips.{axisOf}
+use Rattle.alf_spec.specs.Geometry.{axisOf}
 use Rattle.alf_pieces.specs.Pieces.{either}
 use Rattle.alf_lists.proofs.Painted.{paint-is, paint-of, paint-none}
 use Rattle.alf_lists.proofs.Regions.{rect-none}
@@ -18,7 +18,7 @@ use Rattle.alf_pieces.proofs.PieceWalk.{Walk, walk-start, walk-next, walk-done,
 use Rattle.alf_taps.specs.Spread.{TapNumbers}
 use Rattle.alf_ctb.specs.Filters.{rowRatio, walkLine}
 use Rattle.alf_ctb.specs.Work.{RowsFiltered}
-use Rattle.alf_ctb.proofs.Ratios.{filter-ratios, walks, own-order, rooms-same}
+use Rattle.alf_ctb.proofs.Ratios.{filter-ratios, walks, rooms-same}
 use Rattle.alf_ctb.proofs.ctbs.filter_ctb.Statement.{statement}
 use Rattle.alf_ctb.proofs.ctbs.filter_ctb.Tie as tie
 

@@ -6,9 +6,9 @@ use native.Mathlib.Nat.{div-one}
 use native.Mathlib.Omega.{arith}
 use borrow.Author.Needs.{needs}
 use lib.ListN.{length}
-use Rattle.alf_spec.proofs.IsolatedRegions.Ratios.{whole}
+use Rattle.alf_spec.proofs.Ratios.{whole, own-order}
 use Rattle.alf_math.proofs.Grids.{place-bound, width-bounds}
-use Rattle.alf_boundary.specs.Clips.{axisOf}
+use Rattle.alf_spec.specs.Geometry.{axisOf}
 use Rattle.alf_pieces.specs.Pieces.{either}
 use Rattle.alf_lists.proofs.Painted.{paint-is, paint-of, paint-none}
 use Rattle.alf_lists.proofs.Regions.{rect-none}
@@ -19,7 +19,7 @@ use Rattle.alf_pieces.proofs.PieceWalk.{columns-regular}
 use Rattle.alf_taps.specs.Spread.{TapNumbers}
 use Rattle.alf_ctb.specs.Filters.{columnRatio, walkLine}
 use Rattle.alf_ctb.specs.Work.{ColumnsFiltered}
-use Rattle.alf_ctb.proofs.Ratios.{filter-ratios, own-order, rooms-same}
+use Rattle.alf_ctb.proofs.Ratios.{filter-ratios, rooms-same}
 use Rattle.alf_ctb.proofs.ctbs.filter_strip.Statement.{statement}
 use Rattle.alf_ctb.proofs.ctbs.filter_strip.Tie as tie
 

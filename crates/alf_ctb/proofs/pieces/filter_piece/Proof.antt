@@ -2,7 +2,7 @@
 use mathlib.Core.Path.{ap, _∙_}
 use Prim.Native.Nat.{ℕ}
 use borrow.Author.Needs.{needs}
-use Rattle.alf_spec.proofs.IsolatedRegions.Ratios.{chroma-ratios}
+use Rattle.alf_spec.proofs.Ratios.{chroma-ratios}
 use Rattle.alf_pieces.specs.Pieces.{scaled}
 use Rattle.alf_ctb.proofs.PieceFilters.{luma-work, chroma-work, cross-work, scaled-in, luma-filtered, chroma-filtered}
 use Rattle.alf_ctb.proofs.PieceFilters.{cross-filtered}

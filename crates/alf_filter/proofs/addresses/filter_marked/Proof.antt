@@ -13,7 +13,7 @@ use Rattle.alf_spec.specs.Lists.{elem, painted}
 use Rattle.alf_spec.specs.Input.{Layout, layoutOf, Input, inputOf}
 use Rattle.alf_spec.specs.Geometry.{Plane, planeLength, ctbTotal, ctbOf}
 use Rattle.alf_spec.specs.Process.{isFiltered, atIndex, outputPlane}
-use Rattle.alf_spec.proofs.Accepted.{Accepted, output-length}
+use Rattle.alf_spec.proofs.Accepted.{AcceptedLayout, output-length}
 use Rattle.alf_math.proofs.Grids.{few-ctbs, grid-total}
 use Rattle.alf_pieces.specs.Copies.{area}
 use Rattle.alf_lists.proofs.Painted.{Paint, paint-is, paint-none, paint-call, paint-same}
@@ -63,7 +63,7 @@ abbrev start : tie.In-loop Inv-loop μ-loop → tie.Start Inv-loop μ-loop
 start c = c .before .before .before .before .before .before .before .before .before .before .before .before .before .before .before
     .before .before .before
 
-ok : (s : tie.Start Inv-loop μ-loop) → Accepted (layout s)
+ok : (s : tie.Start Inv-loop μ-loop) → AcceptedLayout (layout s)
 ok s = layout-accepted (s .args .filter) (input s [] _) (s .pre .0)
 
 size : (s : tie.Start Inv-loop μ-loop) → length (s .args .output .now) ≡ planeLength

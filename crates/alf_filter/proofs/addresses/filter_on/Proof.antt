@@ -7,9 +7,10 @@ use borrow.Author.Needs.{needs}
 use lib.ListN.{length}
 use Rattle.alf_spec.specs.Input.{Layout, layoutOf, Input, inputOf}
 use Rattle.alf_spec.specs.Geometry.{ctbTotal, address}
-use Rattle.alf_spec.proofs.Accepted.{Accepted, lists-valid}
+use Rattle.alf_spec.proofs.Accepted.{AcceptedLayout, lists-valid}
 use Rattle.alf_math.proofs.Grids.{grid-columns, grid-total}
-use Rattle.alf_boundary.proofs.CtbAddresses.{ctb-in-grid, ctb-in-picture}
+use Rattle.alf_math.proofs.CtbAddresses.{ctb-in-picture}
+use Rattle.alf_boundary.proofs.Tables.{ctb-in-tables}
 use Rattle.alf_pieces.proofs.CtbPieces.{ctb-accepted}
 use Rattle.alf_params.proofs.AcceptedTables.{accepted-tables}
 use Rattle.alf_params.proofs.LoadedFilters.{zeros}
@@ -37,7 +38,7 @@ input s list n =
 abbrev bare : tie.Start → Input
 bare s = input s [] (length (s .args .output .now))
 
-ok : (s : tie.Start) → Accepted (layout s)
+ok : (s : tie.Start) → AcceptedLayout (layout s)
 ok s = layout-accepted (s .args .filter) (bare s) (s .pre .0)
 
 -- what the function is given, from where the sides are known
@@ -47,7 +48,7 @@ start c = c .before .before .before .before .before .before .before .before .bef
 
 sides-of-requires : tie.Need-sides-of-requires
 sides-of-requires c κs = let s = c .before .before .before .before .before .before .before .before .before .before .before .before
-    .before .before .before .before .before .before in ctb-in-grid (layout s) (ok s) (s .pre .1) _ (s .pre .2)
+    .before .before .before .before .before .before in ctb-in-tables (layout s) (ok s) (s .pre .1) _ (s .pre .2)
 
 load-requires : tie.Need-load-requires
 load-requires c κs =
@@ -67,7 +68,7 @@ filter-ctb-requires c κs =
     let s = start (c .before .before .before .before .before .before .before .before .before) in
     let f = s .args .filter in
     let lists = lists-valid (layout s) (ok s .virtualBoundaries) in
-    let begins = ctb-in-picture (layout s) (ok s) (s .pre .1) _ (s .pre .2) in (
+    let begins = ctb-in-picture (s .pre .1) _ (s .pre .2) in (
       filter-given f (bare s) (s .pre .0) (s .pre .1) (s .pre .3),
       c .before .before .before .before .before .before .load .ensures .0,
       record { copyRoom = s .pre .4; differenceRoom = s .pre .5; spread = s .pre .6; outputLength = output-size f (bare s) (s .pre .0) },

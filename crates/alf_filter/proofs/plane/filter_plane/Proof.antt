@@ -8,7 +8,7 @@ use lib.ListN.{length, length-replicate}
 use Rattle.alf_spec.specs.Lists.{painted}
 use Rattle.alf_spec.specs.Input.{Layout, layoutOf, Input, inputOf}
 use Rattle.alf_spec.specs.Process.{isFiltered, atIndex, outputPlane}
-use Rattle.alf_spec.proofs.Accepted.{Accepted}
+use Rattle.alf_spec.proofs.Accepted.{AcceptedLayout}
 use Rattle.alf_math.proofs.Grids.{few-ctbs, few-in-layout}
 use Rattle.alf_lists.proofs.Painted.{paint-of}
 use Rattle.alf_ctb.specs.Filters.{operationOf, isOn, sampleOf}
@@ -30,7 +30,7 @@ input s =
     (s .args .ctb-params .now)
     (s .args .ctb-list .now) (s .args .fixed-filters .now) (s .args .fixed-map .now) (length (s .args .output .now))
 
-ok : (s : tie.Start) → Accepted (layout s)
+ok : (s : tie.Start) → AcceptedLayout (layout s)
 ok s = layout-accepted (s .args .filter) (input s) (s .pre)
 
 -- what the function is given, once the input is copied

@@ -6,7 +6,7 @@ use native.Mathlib.Nat.{mod-lt}
 use native.Mathlib.Omega.{arith}
 use borrow.Author.Needs.{needs}
 use Rattle.alf_math.proofs.Grids.{depth-bounds}
-use Rattle.alf_boundary.specs.Clips.{axisOf}
+use Rattle.alf_spec.specs.Geometry.{axisOf}
 use Rattle.alf_luma.specs.Samples.{rowsAt}
 use Rattle.alf_luma.proofs.TapRows.{Rising, rising, row-reads}
 use Rattle.alf_luma.proofs.piece.filter_row.Statement.{statement}

@@ -4,7 +4,7 @@ use native.Mathlib.Nat.{div-mul-le-self}
 use native.Mathlib.Omega.{arith}
 use borrow.Author.Needs.{needs}
 use Rattle.alf_spec.specs.Input.{Layout, layoutOf}
-use Rattle.alf_spec.proofs.Accepted.{Accepted, accepted-position}
+use Rattle.alf_spec.proofs.Accepted.{AcceptedLayout, accepted-position}
 use Rattle.alf_boundary.specs.Clips.{InCtb}
 use Rattle.alf_op_causes.proofs.Positions.{in-grid, bounded, causes-are}
 use Rattle.alf_op_causes.proofs.causes.causes_at.Statement.{statement}
@@ -18,7 +18,7 @@ layout s =
     (s .args .slice-map .now) (s .args .subpic-map .now) (s .args .subpic-across .now)
 
 -- it is accepted, and the position lies in the picture
-accepted : (s : tie.Start) → Accepted (layout s) × (s .args .x < s .args .picture .width) × (s .args .y < s .args .picture .height)
+accepted : (s : tie.Start) → AcceptedLayout (layout s) × (s .args .x < s .args .picture .width) × (s .args .y < s .args .picture .height)
 accepted s = accepted-position (layout s) (s .args .x) (s .args .y) (s .pre)
 
 -- what the function is given, seen from where the grid is known

@@ -13,7 +13,7 @@ use Rattle.alf_spec.specs.declared.Grid.{Grid}
 use Rattle.alf_spec.specs.Lists.{everyFrom, allBelow}
 use Rattle.alf_spec.specs.Geometry.{ctbSize}
 use Rattle.alf_spec.specs.Faults.{pictureSizeValid, ctbSizeValid, virtualListValid}
-use Rattle.alf_spec.proofs.IsolatedRegions.Ratios.{whole}
+use Rattle.alf_spec.proofs.Ratios.{whole}
 use Rattle.alf_math.specs.Grids.{ctbsAlong, GridOf}
 use Rattle.alf_boundary.specs.Tables.{TablesOf}
 use Rattle.alf_pieces.specs.declared.pieces.Piece.{Piece}

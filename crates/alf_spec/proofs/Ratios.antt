@@ -58,6 +58,11 @@ pub boundary : (r : ℕ) → Ratio r → (b : ℕ) → b % 2 ≡ 0 → b / r * r
 boundary _ whole b q = omega arith
 boundary _ half b q = omega arith
 
+-- positions in order, in the plane's own samples
+pub own-order : {r : ℕ} → Ratio r → (a b : ℕ) → a ≤ b → a / r ≤ b / r
+own-order whole a b h = omega arith
+own-order half a b h = omega arith
+
 -- ---- the last of the plane's own samples in a CTB of size s that begins at b
 
 pub last-own : (r : ℕ) → Ratio r → (b s u : ℕ) → b % 2 ≡ 0 → s % 8 ≡ 0 → 8 ≤ s → (pred (b / r + s / r) < u) ↔ (b + s ≤ u * r)

@@ -1,4 +1,4 @@
--- `alf_math::rounding::clip_sample` meets its contract: what the clip gives is a level. Assumes nothing.
+-- `alf_math::clipping::clip_sample` meets its contract: what the clip gives is a level. Assumes nothing.
 use mathlib.Core.Path.{_≡_}
 use Prim.Native.Nat.{_<_, _^_, _-_}
 use native.Mathlib.Omega.{arith}
@@ -9,8 +9,8 @@ use mir.Val.{toZ, ofZ}
 use borrow.Author.Needs.{needs}
 use Rattle.alf_spec.specs.Arithmetic.{clip3, clipSample}
 use Rattle.alf_math.proofs.Magnitude.{back, returned, clip-level}
-use Rattle.alf_math.proofs.rounding.clip_sample.Statement.{statement}
-use Rattle.alf_math.proofs.rounding.clip_sample.Tie as tie
+use Rattle.alf_math.proofs.clipping.clip_sample.Statement.{statement}
+use Rattle.alf_math.proofs.clipping.clip_sample.Tie as tie
 
 clipped : (c : tie.After-clip) → let a = c .before .before .args in
     toZ w32 (ofZ w32 (c .clip .result)) ≡ clip3 (pos 0) (pos (2 ^ a .depth - 1)) (a .v)

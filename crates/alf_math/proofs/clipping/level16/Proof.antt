@@ -1,4 +1,4 @@
--- `alf_cross::kernel::level16` meets its contract: what the clip gives is a level. Assumes nothing.
+-- `alf_math::clipping::level16` meets its contract: what the clip gives is a level. Assumes nothing.
 use mathlib.Core.Path.{_≡_}
 use Prim.Native.Nat.{_<_, _^_, _-_}
 use native.Mathlib.Omega.{arith}
@@ -8,9 +8,9 @@ use mir.Syntax.{w16}
 use mir.Val.{toZ, ofZ}
 use borrow.Author.Needs.{needs}
 use Rattle.alf_spec.specs.Arithmetic.{clip3, clipSample}
 use Rattle.alf_math.proofs.Magnitude.{back, returned, clip-level}
-use Rattle.alf_cross.proofs.kernel.level16.Statement.{statement}
-use Rattle.alf_cross.proofs.kernel.level16.Tie as tie
+use Rattle.alf_math.proofs.clipping.level16.Statement.{statement}
+use Rattle.alf_math.proofs.clipping.level16.Tie as tie
 
 clipped : (c : tie.After-clip16) → let a = c .before .before .args in
     toZ w16 (ofZ w16 (c .clip16 .result)) ≡ clip3 (pos 0) (pos (2 ^ a .depth - 1)) (a .v)

@@ -1,8 +1,8 @@
--- `alf_math::rounding::clip` meets its contract: each way returns what its tests pick. Assumes nothing.
+-- `alf_math::clipping::clip` meets its contract: each way returns what its tests pick. Assumes nothing.
 use mir.Facts.{toZ-ofZ}
 use Rattle.alf_spec.specs.Arithmetic.{clip3}
-use Rattle.alf_math.proofs.rounding.clip.Statement.{statement}
-use Rattle.alf_math.proofs.rounding.clip.Tie as tie
+use Rattle.alf_math.proofs.clipping.clip.Statement.{statement}
+use Rattle.alf_math.proofs.clipping.clip.Tie as tie
 
 returns : tie.Need-returns
 unfolding clip3

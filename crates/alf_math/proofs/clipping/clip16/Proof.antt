@@ -1,8 +1,8 @@
--- `alf_cross::kernel::clip16` meets its contract: each way returns what its tests pick. Assumes nothing.
+-- `alf_math::clipping::clip16` meets its contract: each way returns what its tests pick. Assumes nothing.
 use mir.Facts.{toZ-ofZ}
 use Rattle.alf_spec.specs.Arithmetic.{clip3}
-use Rattle.alf_cross.proofs.kernel.clip16.Statement.{statement}
-use Rattle.alf_cross.proofs.kernel.clip16.Tie as tie
+use Rattle.alf_math.proofs.clipping.clip16.Statement.{statement}
+use Rattle.alf_math.proofs.clipping.clip16.Tie as tie
 
 returns : tie.Need-returns
 unfolding clip3

@@ -1,11 +1,11 @@
--- `alf_cross::kernel::half_levels` meets its contract: 2^(depth − 1) is between 1 and 2048. Assumes nothing.
+-- `alf_math::clipping::half_levels` meets its contract: 2^(depth − 1) is between 1 and 2048. Assumes nothing.
 use Prim.Native.Nat.{_-_, _≤_}
 use native.Mathlib.Omega.{arith}
 use lib.Pow.{pow-pos, pow-mono}
 use borrow.Author.Needs.{needs}
 use Rattle.alf_math.proofs.Grids.{shifted}
-use Rattle.alf_cross.proofs.kernel.half_levels.Statement.{statement}
-use Rattle.alf_cross.proofs.kernel.half_levels.Tie as tie
+use Rattle.alf_math.proofs.clipping.half_levels.Statement.{statement}
+use Rattle.alf_math.proofs.clipping.half_levels.Tie as tie
 
 returns : tie.Need-returns
 returns c =
