@@ -7,6 +7,7 @@ use compare::picture::picture;
 use compare::random::Random;
 use compare::run::{agreed, before};
 use compare::seeds;
+use raspbegonia::Fault;
 use std::fmt;
 
 /// What a test has really done: a seed whose picture has no place for its damage, or draws none, counts nowhere.
@@ -16,13 +17,13 @@ struct Done {
     damages: usize,
     calls: usize,
     /// Calls by the number that they were answered with; 0 where the operation is not given what was damaged.
-    answers: [usize; 16],
+    answers: [usize; 1 + Fault::ALL.len()],
 }
 
 impl fmt::Display for Done {
     fn fmt(&self, f: &mut fmt::Formatter) -> fmt::Result {
         let rejected = self.calls - self.answers[0];
-        let by_number: Vec<String> = (1..16).map(|n| format!("{n}: {}", self.answers[n])).collect();
+        let by_number: Vec<String> = (1..self.answers.len()).map(|n| format!("{n}: {}", self.answers[n])).collect();
         write!(
             f,
             "{} inputs really damaged, in {} places; of {} calls {rejected} rejected, by number {}",
