@@ -1,8 +1,9 @@
 -- The tables of an accepted layout, and the entries of a CTB in them. Assumes nothing.
-use mathlib.Core.Path.{_≡_, _∙_, sym, ap}
-use mathlib.Core.Bool.{Bool, true}
+use mathlib.Core.Path.{_≡_, _∙_, sym}
+use mathlib.Core.Bool.{true}
 use mathlib.Core.List.{List}
-use Prim.Native.Nat.{ℕ, _+_, _*_, _/_, _%_, _<_}
+use Prim.Native.Nat.{ℕ, suc, pred, _+_, _*_, _/_, _%_, _<_}
+use native.Mathlib.Omega.{arith}
 use lib.Dec.{ltb}
 use lib.ListN.{length}
 use borrow.Author.Tests.{ltb-true}
@@ -10,6 +11,7 @@ use Rattle.alf_spec.specs.declared.Ctb.{Ctb}
 use Rattle.alf_spec.specs.declared.Grid.{Grid}
 use Rattle.alf_spec.specs.Lists.{within, every}
 use Rattle.alf_spec.specs.Input.{Layout}
+use Rattle.alf_spec.specs.Geometry.{Side, before, after, next, hasNext}
 use Rattle.alf_spec.specs.Faults.{subpicturesValid}
 use Rattle.alf_spec.proofs.Tests.{both, every-at}
 use Rattle.alf_spec.proofs.Planes.{place-below}
@@ -17,13 +19,14 @@ use Rattle.alf_spec.proofs.Accepted.{AcceptedLayout, table-lengths}
 use Rattle.alf_math.specs.Grids.{GridOf}
 use Rattle.alf_math.proofs.Grids.{grid-columns, grid-rows, grid-total}
 use Rattle.alf_math.proofs.CtbAddresses.{ctb-in-grid}
-use Rattle.alf_boundary.specs.declared.sides.Neighbour.{Neighbour}
-use Rattle.alf_boundary.specs.Tables.{TablesOf}
+use Rattle.alf_boundary.specs.Tables.{MembershipTables}
 use Rattle.alf_boundary.specs.Memberships.{InTables}
+use Rattle.alf_boundary.specs.Neighbours.{beside, stacked, diagonal}
+use Rattle.alf_boundary.specs.SideCauses.{Reached}
 
 -- an accepted layout has the tables of its grid
 pub tables-of : (l : Layout) (g : Grid) → GridOf (l .picture) g → AcceptedLayout l
-    → TablesOf g (l .tileColumns) (l .tileRows) (l .sliceMap) (l .subpicMap) (l .subpicAcross)
+    → MembershipTables g (l .tileColumns) (l .tileRows) (l .sliceMap) (l .subpicMap) (l .subpicAcross)
 unfolding subpicturesValid
 tables-of l g h ok =
     let lengths = table-lengths l (ok .lengths) in
@@ -38,13 +41,21 @@ tables-of l g h ok =
 
 -- the CTB at address k of an accepted layout is in the grid, and the tables have its entries
 pub ctb-in-tables : (l : Layout) → AcceptedLayout l → {g : Grid} → GridOf (l .picture) g → (k : ℕ) → k < g .columns * g .rows
-    → (GridOf (l .picture) g) × (TablesOf g (l .tileColumns) (l .tileRows) (l .sliceMap) (l .subpicMap) (l .subpicAcross))
+    → (GridOf (l .picture) g) × (MembershipTables g (l .tileColumns) (l .tileRows) (l .sliceMap) (l .subpicMap) (l .subpicAcross))
     × (k % g .columns < g .columns) × (k / g .columns < g .rows)
 ctb-in-tables l ok {g} h k below = let within = ctb-in-grid h k below in (h, tables-of l g h ok, within .0, within .1)
 
+-- the place next to x among n, where it has one on that side
+next-within : (n x : ℕ) (d : Side) → hasNext n d x ≡ true → next d x < n
+next-within n x before e = down (ltb-true x n (both (ltb 0 x) (ltb x n) e .1))
+  where
+    down : x < n → pred x < n
+    down h = omega arith
+next-within n x after e = ltb-true (suc x) n (both (ltb 0 (suc x)) (ltb (suc x) n) e .1)
+
 -- the tables of a grid
 module _ {g : Grid} {tileColumns tileRows sliceMap subpicMap subpicAcross : List ℕ}
-    (t : TablesOf g tileColumns tileRows sliceMap subpicMap subpicAcross) where
+    (t : MembershipTables g tileColumns tileRows sliceMap subpicMap subpicAcross) where
   -- a CTB has its entries, and its subpicture a switch
   pub in-tables : (c : Ctb) → c .column < g .columns → c .row < g .rows
       → InTables (g .columns) tileColumns tileRows sliceMap subpicMap subpicAcross c
@@ -60,11 +71,15 @@ module _ {g : Grid} {tileColumns tileRows sliceMap subpicMap subpicAcross : List
         switch = rw (t .switchLength) (ltb-true _ 64 below);
       }
 
-  -- a neighbour that is there has its entries
-  pub neighbour-in : {columns : ℕ} → columns ≡ g .columns
-      → {n : Neighbour} {there : Bool} {x y : ℕ} → n ≡ record { there = there; ctb = record { column = x; row = y } }
-      → (there ≡ true → (x < g .columns) × (y < g .rows))
-      → n .there ≡ true → InTables columns tileColumns tileRows sliceMap subpicMap subpicAcross (n .ctb)
-  neighbour-in e is within h =
-      let p = within (ap (λ (n : Neighbour). n .there) (sym is) ∙ h) in
-      rw (e, is) (in-tables _ (p .0) (p .1))
+  -- the CTBs next to c on one side, where they are there, lie in the grid, and have their entries
+  module _ (c : Ctb) (x : c .column < g .columns) (y : c .row < g .rows) (d : Side) where
+    pub beside-reached : Reached tileColumns tileRows sliceMap subpicMap subpicAcross (g .columns) (beside g c d)
+    beside-reached e = in-tables _ (next-within (g .columns) (c .column) d e) y
+
+    pub stacked-reached : Reached tileColumns tileRows sliceMap subpicMap subpicAcross (g .columns) (stacked g c d)
+    stacked-reached e = in-tables _ x (next-within (g .rows) (c .row) d e)
+
+    pub diagonal-reached : Reached tileColumns tileRows sliceMap subpicMap subpicAcross (g .columns) (diagonal g c d)
+    diagonal-reached e =
+        let h = both (hasNext (g .columns) d (c .column)) (hasNext (g .rows) d (c .row)) e in
+        in-tables _ (next-within (g .columns) (c .column) d (h .0)) (next-within (g .rows) (c .row) d (h .1))

@@ -14,7 +14,7 @@ use Rattle.alf_spec.specs.Geometry.{before, after}
 use Rattle.alf_spec.specs.Boundary.{columnSide, rowSide, cornerDisabled}
 
 -- the tables have the grid's lengths, and each subpicture number has a switch
-pub record TablesOf (g : Grid) (tileColumns tileRows sliceMap subpicMap subpicAcross : List ℕ) : Type 0 where
+pub record MembershipTables (g : Grid) (tileColumns tileRows sliceMap subpicMap subpicAcross : List ℕ) : Type 0 where
   pub columnsLength : length tileColumns ≡ g .columns
   pub rowsLength : length tileRows ≡ g .rows
   pub sliceLength : length sliceMap ≡ g .columns * g .rows

@@ -2,5 +2,7 @@
 // positions of a sample, each with its cause. All of them equal their definitions of `alf_spec`.
 pub mod causes;
 pub mod clips;
+mod memberships;
+mod neighbours;
 pub mod sides;
 pub mod virtual_boundaries;

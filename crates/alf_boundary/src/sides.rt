@@ -1,30 +1,24 @@
 // The sides of a CTB, by why filtering across them is disabled, and its corners across which it is.
 ghost use mathlib.Core.Path.{_≡_};
-ghost use mathlib.Core.Bool.{true, not, _&&_, cond};
+ghost use mathlib.Core.Bool.{true};
 ghost use mathlib.Core.List.{List};
 ghost use Prim.Native.Nat.{ℕ, _+_, _*_, _<_};
-ghost use lib.Dec.{eqb};
-ghost use lib.ListN.{length, getD};
-ghost use Rattle.alf_spec.specs.declared.ClipCause.the-variants.{Open};
+ghost use lib.ListN.{length};
 ghost use Rattle.alf_spec.specs.Input.{layoutOf};
 ghost use Rattle.alf_math.specs.Grids.{GridOf};
-ghost use Rattle.alf_boundary.specs.Tables.{TablesOf, SidesOf};
-ghost use Rattle.alf_boundary.specs.Memberships.{InTables, membershipAt, sliceStepDisabled, causeInto};
-use alf_math::grid::previous;
+ghost use Rattle.alf_boundary.specs.Tables.{MembershipTables, SidesOf};
+ghost use Rattle.alf_boundary.specs.Memberships.{InTables};
+ghost use Rattle.alf_boundary.specs.SideCauses.{originAt, sliceStepDisabled, causeInto, Reached, causeToward, cornerToward};
+use crate::memberships::Membership;
+use crate::memberships::address;
+use crate::memberships::membership_of;
+use crate::neighbours::Neighbour;
+use crate::neighbours::neighbours_of;
 use alf_spec::ClipCause;
 use alf_spec::Ctb;
 use alf_spec::Grid;
 use alf_spec::Picture;
 use alf_spec::Sides;
-
-// The tile, the slice and the subpicture of a CTB, and that subpicture's switch.
-struct Membership {
-    pub tile_column: u8,
-    pub tile_row: u8,
-    pub slice: u8,
-    pub subpic: u8,
-    pub across_subpic: bool,
-}
 
 // What decides at each side of a CTB: its membership, and the picture's switches for tiles and slices. With them the number of CTBs in a
 // row, by which a neighbour's address is known.
@@ -35,30 +29,15 @@ struct Origin {
     pub columns: u32,
 }
 
-// A CTB next to another, where there is one.
-struct Neighbour {
-    pub there: bool,
-    pub ctb: Ctb,
+// Why filtering across the sides of a CTB along one axis is disabled: the side before it, and the side after it.
+struct AxisCauses {
+    pub before: ClipCause,
+    pub after: ClipCause,
 }
 
-// The address of a CTB.
-fn address(columns: u32, ctb: Ctb) -> usize
-    ensures { λ r. ⌜ r ≡ ctb .row * columns + ctb .column ⌝ }
-{
-    (ctb.row as usize) * (columns as usize) + (ctb.column as usize)
-}
-
-// The switch of a subpicture.
-fn switch_of(subpic_across: &[u8], subpic: u8) -> bool
-    requires { ⌜ subpic < length (now «subpic_across») ⌝ }
-    ensures { λ r. ⌜ r ≡ not (eqb (getD (now («subpic_across» .entry)) subpic 0) 0) ⌝ }
-{
-    let at = subpic as usize;
-    subpic_across[at] != 0
-}
-
-// What a CTB belongs to.
-fn membership_of(
+// What decides at the sides of a CTB of the picture.
+fn origin_of(
+    picture: Picture,
     columns: u32,
     tile_columns: &[u8],
     tile_rows: &[u8],
@@ -66,21 +45,25 @@ fn membership_of(
     subpic_map: &[u8],
     subpic_across: &[u8],
     ctb: Ctb,
-) -> Membership
+) -> Origin
     requires { ⌜ InTables columns (now «tile_columns») (now «tile_rows») (now «slice_map») (now «subpic_map») (now «subpic_across») ctb ⌝ }
-    ensures { λ m. ⌜ m ≡ membershipAt columns (now («tile_columns» .entry)) (now («tile_rows» .entry)) (now («slice_map» .entry))
-        (now («subpic_map» .entry)) (now («subpic_across» .entry)) ctb ⌝ }
+    ensures { λ o. ⌜ o ≡ originAt (now («tile_columns» .entry)) (now («tile_rows» .entry)) (now («slice_map» .entry))
+        (now («subpic_map» .entry)) (now («subpic_across» .entry)) picture columns ctb ⌝ }
 {
-    let column = ctb.column as usize;
-    let row = ctb.row as usize;
-    let at = address(columns, ctb);
-    let subpic = subpic_map[at];
-    Membership {
-        tile_column: tile_columns[column],
-        tile_row: tile_rows[row],
-        slice: slice_map[at],
-        subpic: subpic,
-        across_subpic: switch_of(subpic_across, subpic),
+    let own = membership_of(
+        columns,
+        tile_columns,
+        tile_rows,
+        slice_map,
+        subpic_map,
+        subpic_across,
+        ctb,
+    );
+    Origin {
+        own: own,
+        across_tiles: picture.across_tiles,
+        across_slices: picture.across_slices,
+        columns: columns,
     }
 }
 
@@ -124,19 +107,16 @@ fn side_cause(
     subpic_across: &[u8],
     n: Neighbour,
 ) -> ClipCause
-    requires { ⌜ (n .there ≡ true
-        → InTables (origin .columns) (now «tile_columns») (now «tile_rows») (now «slice_map») (now «subpic_map»)
-        (now «subpic_across») (n .ctb)) ⌝ }
-    ensures { λ r. ⌜ r ≡ cond (n .there) (causeInto origin (membershipAt (origin .columns) (now («tile_columns» .entry))
-        (now («tile_rows» .entry))
-        (now («slice_map» .entry)) (now («subpic_map» .entry)) (now («subpic_across» .entry)) (n .ctb))) Open ⌝ }
+    requires { ⌜ Reached (now «tile_columns») (now «tile_rows») (now «slice_map») (now «subpic_map») (now «subpic_across»)
+        (origin .columns) n ⌝ }
+    ensures { λ r. ⌜ r ≡ causeToward (now («tile_columns» .entry)) (now («tile_rows» .entry)) (now («slice_map» .entry))
+        (now («subpic_map» .entry)) (now («subpic_across» .entry)) origin n ⌝ }
 {
     if !n.there {
         return ClipCause::Open;
     }
-    let columns = origin.columns;
     let into = membership_of(
-        columns,
+        origin.columns,
         tile_columns,
         tile_rows,
         slice_map,
@@ -147,31 +127,58 @@ fn side_cause(
     step_cause(origin, into)
 }
 
-// Filtering across the corner toward a neighbour is disabled, by slices alone.
+// Why filtering across the two sides along one axis is disabled, by the neighbours along it.
+fn axis_causes(
+    origin: Origin,
+    tile_columns: &[u8],
+    tile_rows: &[u8],
+    slice_map: &[u8],
+    subpic_map: &[u8],
+    subpic_across: &[u8],
+    before: Neighbour,
+    after: Neighbour,
+) -> AxisCauses
+    requires { ⌜ (Reached (now «tile_columns») (now «tile_rows») (now «slice_map») (now «subpic_map») (now «subpic_across»)
+        (origin .columns) before)
+        × (Reached (now «tile_columns») (now «tile_rows») (now «slice_map») (now «subpic_map») (now «subpic_across»)
+        (origin .columns) after) ⌝ }
+    ensures { λ r. ⌜ (r .before ≡ causeToward (now («tile_columns» .entry)) (now («tile_rows» .entry)) (now («slice_map» .entry))
+        (now («subpic_map» .entry)) (now («subpic_across» .entry)) origin before)
+        × (r .after ≡ causeToward (now («tile_columns» .entry)) (now («tile_rows» .entry)) (now («slice_map» .entry))
+        (now («subpic_map» .entry)) (now («subpic_across» .entry)) origin after) ⌝ }
+{
+    AxisCauses {
+        before: side_cause(
+            origin,
+            tile_columns,
+            tile_rows,
+            slice_map,
+            subpic_map,
+            subpic_across,
+            before,
+        ),
+        after: side_cause(
+            origin,
+            tile_columns,
+            tile_rows,
+            slice_map,
+            subpic_map,
+            subpic_across,
+            after,
+        ),
+    }
+}
+
+// Filtering across the corner toward a neighbour is disabled, by slices alone; where there is none, nothing is read.
 fn corner_disabled(origin: Origin, slice_map: &[u8], n: Neighbour) -> bool
     requires { ⌜ (n .there ≡ true → n .ctb .row * origin .columns + n .ctb .column < length (now «slice_map»)) ⌝ }
-    ensures { λ r. ⌜ r ≡ (n .there
-        && sliceStepDisabled origin (getD (now («slice_map» .entry)) (n .ctb .row * origin .columns + n .ctb .column) 0)) ⌝ }
+    ensures { λ r. ⌜ r ≡ cornerToward (now («slice_map» .entry)) origin n ⌝ }
 {
     if !n.there {
         return false;
     }
     let at = address(origin.columns, n.ctb);
     slice_step_disabled(origin, slice_map[at])
-}
-
-// The neighbour at this place, where it is there.
-fn neighbour_at(there: bool, column: u32, row: u32) -> Neighbour
-    ensures { λ r. ⌜ r ≡ record { there = there; ctb = record { column = column; row = row } } ⌝ }
-{
-    let ctb = Ctb {
-        column: column,
-        row: row,
-    };
-    Neighbour {
-        there: there,
-        ctb: ctb,
-    }
 }
 
 // The sides of a CTB, by why filtering across them is disabled, and its corners across which it is.
@@ -186,21 +193,14 @@ pub fn sides_of(
     ctb: Ctb,
 ) -> Sides
     requires { ⌜ (GridOf picture grid)
-        × (TablesOf grid (now «tile_columns») (now «tile_rows») (now «slice_map») (now «subpic_map») (now «subpic_across»))
+        × (MembershipTables grid (now «tile_columns») (now «tile_rows») (now «slice_map») (now «subpic_map») (now «subpic_across»))
         × (ctb .column < grid .columns) × (ctb .row < grid .rows) ⌝ }
-    ensures { λ s. ⌜ ((columns rows : List ℕ) → SidesOf
-        (layoutOf picture columns rows (now («tile_columns» .entry)) (now («tile_rows» .entry)) (now («slice_map» .entry))
-        (now («subpic_map» .entry))
-        (now («subpic_across» .entry))) ctb s) ⌝ }
+    ensures { λ s. ⌜ ((columns rows : List ℕ) → SidesOf (layoutOf picture columns rows (now («tile_columns» .entry))
+        (now («tile_rows» .entry)) (now («slice_map» .entry)) (now («subpic_map» .entry)) (now («subpic_across» .entry))) ctb s) ⌝ }
 {
-    let columns = grid.columns;
-    let rows = grid.rows;
-    let x = ctb.column;
-    let y = ctb.row;
-    let x_after = x + 1;
-    let y_after = y + 1;
-    let own = membership_of(
-        columns,
+    let origin = origin_of(
+        picture,
+        grid.columns,
         tile_columns,
         tile_rows,
         slice_map,
@@ -208,58 +208,37 @@ pub fn sides_of(
         subpic_across,
         ctb,
     );
-    let here = Origin {
-        own: own,
-        across_tiles: picture.across_tiles,
-        across_slices: picture.across_slices,
-        columns: columns,
-    };
-    let x_before = previous(x);
-    let y_before = previous(y);
-    let left = neighbour_at(0 < x, x_before, y);
-    let right = neighbour_at(x_after < columns, x_after, y);
-    let above = neighbour_at(0 < y, x, y_before);
-    let below = neighbour_at(y_after < rows, x, y_after);
-    let upper_left = neighbour_at((0 < x) & (0 < y), x_before, y_before);
-    let lower_right = neighbour_at((x_after < columns) & (y_after < rows), x_after, y_after);
+    let near = neighbours_of(grid, ctb);
+    let across = axis_causes(
+        origin,
+        tile_columns,
+        tile_rows,
+        slice_map,
+        subpic_map,
+        subpic_across,
+        near.left,
+        near.right,
+    );
+    let down = axis_causes(
+        origin,
+        tile_columns,
+        tile_rows,
+        slice_map,
+        subpic_map,
+        subpic_across,
+        near.above,
+        near.below,
+    );
+    let left = across.before;
+    let right = across.after;
+    let top = down.before;
+    let bottom = down.after;
     Sides {
-        left: side_cause(
-            here,
-            tile_columns,
-            tile_rows,
-            slice_map,
-            subpic_map,
-            subpic_across,
-            left,
-        ),
-        right: side_cause(
-            here,
-            tile_columns,
-            tile_rows,
-            slice_map,
-            subpic_map,
-            subpic_across,
-            right,
-        ),
-        top: side_cause(
-            here,
-            tile_columns,
-            tile_rows,
-            slice_map,
-            subpic_map,
-            subpic_across,
-            above,
-        ),
-        bottom: side_cause(
-            here,
-            tile_columns,
-            tile_rows,
-            slice_map,
-            subpic_map,
-            subpic_across,
-            below,
-        ),
-        upper_left: corner_disabled(here, slice_map, upper_left),
-        lower_right: corner_disabled(here, slice_map, lower_right),
+        left: left,
+        right: right,
+        top: top,
+        bottom: bottom,
+        upper_left: corner_disabled(origin, slice_map, near.upper_left),
+        lower_right: corner_disabled(origin, slice_map, near.lower_right),
     }
 }

@@ -14,7 +14,7 @@ use Rattle.alf_spec.proofs.Accepted.{AcceptedLayout, accepted-layout, accepted-
 use Rattle.alf_spec.proofs.Axes.{regular-columns, regular-rows}
 use Rattle.alf_math.specs.Grids.{GridOf}
 use Rattle.alf_math.proofs.Grids.{width-bounds, height-bounds, grid-columns, grid-total}
-use Rattle.alf_boundary.specs.Tables.{TablesOf, SidesOf}
+use Rattle.alf_boundary.specs.Tables.{MembershipTables, SidesOf}
 use Rattle.alf_math.proofs.CtbAddresses.{ctb-in-picture}
 use Rattle.alf_boundary.proofs.Tables.{ctb-in-tables}
 use Rattle.alf_isolation.specs.Blocks.{ctbPasses}
@@ -47,7 +47,8 @@ module _ (l : Layout) (region : List ℕ) (accepted : isolationFault l region �
   -- the CTB at address k
   module _ (k : ℕ) (below : k < g .columns * g .rows) where
     -- it is in the grid, and the tables have its entries
-    pub in-grid : (GridOf (l .picture) g) × (TablesOf g (l .tileColumns) (l .tileRows) (l .sliceMap) (l .subpicMap) (l .subpicAcross))
+    pub in-grid : (GridOf (l .picture) g)
+        × (MembershipTables g (l .tileColumns) (l .tileRows) (l .sliceMap) (l .subpicMap) (l .subpicAcross))
         × (k % g .columns < g .columns) × (k / g .columns < g .rows)
     in-grid = ctb-in-tables l ok h k below
 

@@ -16,7 +16,7 @@ use Rattle.alf_spec.proofs.Accepted.{AcceptedLayout}
 use Rattle.alf_math.specs.Grids.{ctbsAlong, GridOf}
 use Rattle.alf_math.proofs.Grids.{width-bounds, height-bounds}
 use Rattle.alf_boundary.specs.Clips.{InCtb}
-use Rattle.alf_boundary.specs.Tables.{TablesOf, SidesOf}
+use Rattle.alf_boundary.specs.Tables.{MembershipTables, SidesOf}
 use Rattle.alf_boundary.proofs.Tables.{tables-of}
 
 -- a position before the end of n samples lies in one of their CTBs
@@ -29,7 +29,8 @@ module _ (l : Layout) (ok : AcceptedLayout l) {g : Grid} (h : GridOf (l .picture
   abbrev pub own : Ctb
   own = record { column = x / g .ctb; row = y / g .ctb }
 
-  pub in-grid : (GridOf (l .picture) g) × (TablesOf g (l .tileColumns) (l .tileRows) (l .sliceMap) (l .subpicMap) (l .subpicAcross))
+  pub in-grid : (GridOf (l .picture) g)
+      × (MembershipTables g (l .tileColumns) (l .tileRows) (l .sliceMap) (l .subpicMap) (l .subpicAcross))
       × (x / g .ctb < g .columns) × (y / g .ctb < g .rows)
   unfolding ctbsAlong
   in-grid =

@@ -8,14 +8,14 @@ pub corner-disabled-spec : {M : Type 1} → statement M
 corner-disabled-spec =
     tie.close
     (tie.spec
-    (λ c. rw (not-true (c .before .before .before .args .n .there) (c .if1 .taken)))
+    (λ c. let s : tie.Start = search needs in rw (not-true (s .args .n .there) (c .if1 .taken)))
     (λ c κs. search needs)
     (λ c.
-    let at = c .before in
-    let s = at .before .before .before .before in
+    let s : tie.Start = search needs in
+    let at : tie.After-address = search needs in
     rw (at .address .ensures) (s .pre (not-false (s .args .n .there) (at .before .if1 .left))))
     (λ c κs. search needs)
     (λ c.
-    let at = c .before .before in
-    let s = at .before .before .before .before in
+    let s : tie.Start = search needs in
+    let at : tie.After-address = search needs in
     rw (not-false (s .args .n .there) (at .before .if1 .left), ← at .address .ensures) (c .slice-step-disabled .ensures)))

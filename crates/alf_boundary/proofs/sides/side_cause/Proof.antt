@@ -8,9 +8,9 @@ pub side-cause-spec : {M : Type 1} → statement M
 side-cause-spec =
     tie.close
     (tie.spec
-    (λ c. rw (not-true (c .before .before .before .before .before .before .before .args .n .there) (c .if1 .taken)))
-    (λ c κs. let s = c .before .before .before .before .before .before .before in s .pre (not-false (s .args .n .there) (c .if1 .left)))
+    (λ c. let s : tie.Start = search needs in rw (not-true (s .args .n .there) (c .if1 .taken)))
+    (λ c κs. let s : tie.Start = search needs in s .pre (not-false (s .args .n .there) (c .if1 .left)))
     (λ c κs. search needs)
     (λ c.
-    let s = c .before .before .before .before .before .before .before .before .before in
+    let s : tie.Start = search needs in
     rw (not-false (s .args .n .there) (c .before .before .if1 .left)) (rw (c .before .membership-of .ensures) at (c .step-cause .ensures))))

@@ -15,7 +15,7 @@ use Rattle.alf_spec.specs.Geometry.{ctbSize}
 use Rattle.alf_spec.specs.Faults.{pictureSizeValid, ctbSizeValid, virtualListValid}
 use Rattle.alf_spec.proofs.Ratios.{whole}
 use Rattle.alf_math.specs.Grids.{ctbsAlong, GridOf}
-use Rattle.alf_boundary.specs.Tables.{TablesOf}
+use Rattle.alf_boundary.specs.Tables.{MembershipTables}
 use Rattle.alf_pieces.specs.declared.pieces.Piece.{Piece}
 use Rattle.alf_pieces.specs.Pieces.{PieceIn}
 use Rattle.alf_pieces.specs.Copies.{pitch}
@@ -61,7 +61,7 @@ module _ (g : Grid) (h : GridOf picture g) where
   unfolding ctbsAlong ctbSize
   rows = h .rows
 
-  tables : TablesOf g (0 ∷ 0 ∷ []) (0 ∷ 0 ∷ []) (0 ∷ 1 ∷ 1 ∷ 1 ∷ []) (0 ∷ 0 ∷ 0 ∷ 0 ∷ []) (replicate 64 1)
+  tables : MembershipTables g (0 ∷ 0 ∷ []) (0 ∷ 0 ∷ []) (0 ∷ 1 ∷ 1 ∷ 1 ∷ []) (0 ∷ 0 ∷ 0 ∷ 0 ∷ []) (replicate 64 1)
   unfolding everyFrom
   tables = record {
     columnsLength = sym columns;

@@ -1,10 +1,10 @@
--- `alf_boundary::sides::address` meets its contract: the product of two 32-bit numbers, and one more, fit 64 bits. Assumes nothing.
+-- `alf_boundary::memberships::address` meets its contract: the product of two 32-bit numbers, and one more, fit 64 bits. Assumes nothing.
 use Prim.Native.Nat.{_*_, _≤_}
 use native.Mathlib.Nat.{mul-le-mul}
 use native.Mathlib.Omega.{arith}
 use borrow.Author.Needs.{needs}
-use Rattle.alf_boundary.proofs.sides.address.Statement.{statement}
-use Rattle.alf_boundary.proofs.sides.address.Tie as tie
+use Rattle.alf_boundary.proofs.memberships.address.Statement.{statement}
+use Rattle.alf_boundary.proofs.memberships.address.Tie as tie
 
 -- the address less the column
 product : (s : tie.Start) → s .args .ctb .row * s .args .columns ≤ 4294967295 * 4294967295
