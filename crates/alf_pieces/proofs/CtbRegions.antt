@@ -1,7 +1,7 @@
 -- The samples of a CTB, of every plane: they are a rectangle, and the CTBs of the picture, one after the other, are the whole plane, and so
 -- they are written. Assumes nothing.
 use mathlib.Core.Path.{_≡_, refl, sym, ap, _∙_}
-use mathlib.Core.Bool.{Bool, true, false, _||_}
+use mathlib.Core.Bool.{Bool, true, false, _&&_, _||_, and-true, and-false}
 use mathlib.Core.Logic.{inl, inr, ⊎-elim}
 use mathlib.Core.List.{List}
 use Prim.Native.Nat.{ℕ, suc, _+_, _*_, _/_, _%_, _≤_, _<_, min}
@@ -26,8 +26,8 @@ use Rattle.alf_math.specs.Grids.{GridOf}
 use Rattle.alf_math.proofs.Grids.{grid-columns, grid-total}
 use Rattle.alf_lists.specs.Regions.{inRect}
 use Rattle.alf_pieces.specs.Pieces.{ctbLimit}
-use Rattle.alf_pieces.specs.CtbRegions.{addressAt, ofCtb, beforeCtb}
-use Rattle.alf_lists.proofs.Painted.{Paint, paint-is, paint-of, paint-same, paint-all}
+use Rattle.alf_pieces.specs.CtbRegions.{addressAt, ofCtb, beforeCtb, inCtbIf, ofCtbIf, beforeCtbIf}
+use Rattle.alf_lists.proofs.Painted.{Paint, paint-is, paint-of, paint-none, paint-call, paint-same, paint-all}
 use Rattle.alf_lists.proofs.Regions.{order, in-rect, rect-facts}
 
 -- a multiple of 8 is a whole number of the plane's own samples: ratios of 1, 2, 4 and 8
@@ -86,6 +86,12 @@ module _ (l : Layout) (ok : AcceptedLayout l) (columnRatio rowRatio line : ℕ) 
     pub every-ctb : beforeCtb l (planeOf l columnRatio rowRatio line) (ctbTotal l) i ≡ true
     unfolding beforeCtb
     every-ctb = lt-ltb _ _ (address-below l (ctbAt plane (columnOf plane i) (rowOf plane i)) column-in row-in)
+
+    -- and in one of those for which a test passes, if it passes for its own
+    pub every-ctb-if : (test : ℕ → Bool) → let g = planeOf l columnRatio rowRatio line in
+        beforeCtbIf l g test (ctbTotal l) i ≡ inCtbIf l g test i
+    unfolding beforeCtbIf inCtbIf
+    every-ctb-if test = rw every-ctb (and-true (test (addressAt l plane i)))
 
     -- the CTB at address k is a rectangle
     module _ (k : ℕ) where
@@ -160,3 +166,35 @@ next-ctb l g k i =
     (λ t. let h = ltb-true at k t in lt-ltb at (k + 1) (omega arith))
     (λ t. let e = eqb-true at k t in lt-ltb at (k + 1) (omega arith))
     (λ t. let h = ltb-true at (k + 1) t in ⊎-elim (λ b. inl (lt-ltb at k b)) (λ b. inr (eq-eqb at k (omega arith))) (order at k))
+
+-- ---- a loop over the CTBs that writes those for which a test passes
+
+and-or : (t a b c : Bool) → (b ≡ true → t ≡ c) → (t && (a || b)) ≡ ((t && a) || (c && b))
+and-or true true b c e = refl
+and-or true false true c e = e refl ∙ sym (and-true c)
+and-or true false false c e = sym (and-false c)
+and-or false a true c e = e refl ∙ sym (and-true c)
+and-or false a false c e = sym (and-false c)
+
+module _ (l : Layout) (g : Plane) (test : ℕ → Bool) (v : ℕ → ℕ) where
+  -- before the first
+  pub ctbs-none : {xs : List ℕ} → Paint xs (beforeCtbIf l g test 0) v xs
+  unfolding beforeCtbIf
+  ctbs-none = paint-none (λ i. rw (no-ctb l g i) (and-false (test (addressAt l g i))))
+
+  -- one more
+  pub ctbs-next : (k : ℕ) {xs ys zs : List ℕ} → Paint xs (beforeCtbIf l g test k) v ys → zs ≡ painted ys (ofCtbIf l g test k) v
+      → Paint xs (beforeCtbIf l g test (k + 1)) v zs
+  unfolding beforeCtbIf ofCtbIf ofCtb
+  ctbs-next k P e = paint-call _ _ P e (λ i h t. refl) (λ i h. ap (λ (b : Bool). test (addressAt l g i) && b) (next-ctb l g k i)
+      ∙ and-or (test (addressAt l g i)) (beforeCtb l g k i) (ofCtb l g k i) (test k)
+      (λ t. ap test (eqb-true (addressAt l g i) k t)))
+
+  -- one CTB is written where the test passes, and nothing where it fails
+  pub ctb-passes : (k : ℕ) (xs : List ℕ) {ys : List ℕ} → test k ≡ true → ys ≡ painted xs (ofCtb l g k) v → ys ≡ painted xs (ofCtbIf l g test k) v
+  unfolding ofCtbIf
+  ctb-passes k xs e h = paint-is (paint-same (paint-of {xs = xs} h) (λ i below. rw e) (λ i below t. refl))
+
+  pub ctb-fails : (k : ℕ) (xs : List ℕ) → test k ≡ false → xs ≡ painted xs (ofCtbIf l g test k) v
+  unfolding ofCtbIf
+  ctb-fails k xs e = paint-is (paint-none (λ i. rw e))

@@ -1,5 +1,5 @@
 -- The samples of one CTB of a plane, and of the CTBs up to one, as tests of an index. Assumes nothing.
-use mathlib.Core.Bool.{Bool}
+use mathlib.Core.Bool.{Bool, _&&_}
 use Prim.Native.Nat.{ℕ}
 use lib.Dec.{eqb, ltb}
 use Rattle.alf_spec.specs.Input.{Layout}
@@ -17,3 +17,15 @@ module _ (l : Layout) (g : Plane) where
   -- it is below k
   unfoldable pub beforeCtb : ℕ → ℕ → Bool
   beforeCtb k i = ltb (addressAt i) k
+
+  -- the test of that address passes
+  unfoldable pub inCtbIf : (ℕ → Bool) → ℕ → Bool
+  inCtbIf test i = test (addressAt i)
+
+  -- it is k, for which the test passes
+  unfoldable pub ofCtbIf : (ℕ → Bool) → ℕ → ℕ → Bool
+  ofCtbIf test k i = test k && ofCtb k i
+
+  -- it is below k, and the test passes for it
+  unfoldable pub beforeCtbIf : (ℕ → Bool) → ℕ → ℕ → Bool
+  beforeCtbIf test k i = test (addressAt i) && beforeCtb k i
