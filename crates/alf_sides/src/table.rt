@@ -5,7 +5,7 @@ ghost use Prim.Native.Nat.{ℕ, _*_, _≤_, _<_};
 ghost use lib.ListN.{length, getD};
 ghost use Rattle.alf_spec.specs.Input.{layoutOf};
 ghost use Rattle.alf_math.specs.Grids.{GridOf};
-ghost use Rattle.alf_boundary.specs.Tables.{TablesOf};
+ghost use Rattle.alf_boundary.specs.Tables.{MembershipTables};
 ghost use Rattle.alf_sides.specs.Entries.{sidesIn};
 ghost use Rattle.alf_sides.specs.Planned.{SidesPlanned};
 use crate::entries::entry_of;
@@ -31,7 +31,7 @@ pub fn plan_sides(
     table: &mut [u16],
 )
     requires { ⌜ (GridOf picture grid) × (grid .columns * grid .rows ≤ length (now table))
-        × (TablesOf grid (now «tile_columns») (now «tile_rows») (now «slice_map») (now «subpic_map») (now «subpic_across»)) ⌝ }
+        × (MembershipTables grid (now «tile_columns») (now «tile_rows») (now «slice_map») (now «subpic_map») (now «subpic_across»)) ⌝ }
     ensures { λ _. ⌜ (length (now (table .exit)) ≡ length (now (table .entry)))
         × ((columns rows : List ℕ) → SidesPlanned (layoutOf picture columns rows (now («tile_columns» .entry)) (now («tile_rows» .entry))
         (now («slice_map» .entry)) (now («subpic_map» .entry)) (now («subpic_across» .entry))) (now (table .exit))) ⌝ }
