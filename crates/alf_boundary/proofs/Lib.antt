@@ -1,5 +1,4 @@
 -- Laws that the proofs of this crate, and of those above it, cite.
 pub mod ClipRules
 pub mod CtbSides
-pub mod Lists
 pub mod Tables

@@ -1,8 +1,7 @@
-// Where filtering stops: the sides of a CTB and why filtering across them is disabled, the picture's virtual boundaries, and the clip
-// positions of a sample, each with its cause. All of them equal their definitions of `alf_spec`.
+// Where filtering stops: the sides of a CTB and why filtering across them is disabled, and the clip positions of a sample, each with its
+// cause. All of them equal their definitions of `alf_spec`.
 pub mod causes;
 pub mod clips;
 mod memberships;
 mod neighbours;
 pub mod sides;
-pub mod virtual_boundaries;

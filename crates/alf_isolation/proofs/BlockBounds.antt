@@ -46,6 +46,14 @@ open-within size ctb list disabled b e =
     let p = both (ltb 0 b) (ltb b size) (both (ltb 0 b && ltb b size) _ e .0) in
     (ltb-true 0 b (p .0), ltb-true b size (p .1))
 
+-- a block that is open before it is not the first, and one that is open after it is not the last
+module _ (size ctb : ℕ) (list : List ℕ) (disabled : Bool) (x : ℕ) where
+  block-before : not (stepOpen size ctb list disabled (8 * x)) ≡ false → 1 ≤ x
+  block-before e = omega (arith, open-within size ctb list disabled (8 * x) (not-false _ e))
+
+  block-after : size % 8 ≡ 0 → not (stepOpen size ctb list disabled (8 * x + 8)) ≡ false → x + 2 ≤ size / 8
+  block-after whole e = omega (arith, open-within size ctb list disabled (8 * x + 8) (not-false _ e))
+
 -- a block of a row
 pub block-in : {width ctb n from : ℕ} {s : BlockSides} → RowIn width ctb n from s → (list : List ℕ) (x : ℕ) → x < width / 8
     → {own : BlockSides} → own ≡ blockSides width ctb list s x → BlockIn n (width / 8) (from + x) own
@@ -55,18 +63,18 @@ block-in {width} {ctb} {n} {from} {s} r list x h e = rw e (record {
   small = omega (arith, r .widthHigh);
   here = omega (arith, r .here);
   left = λ l. omega (arith, left l);
-  right = λ l. omega (arith, right l, r .width8, r .here);
+  right = λ l. omega (arith, right l, r .here);
   top = λ t. omega (arith, r .top t);
   bottom = λ t. omega (arith, r .bottom t);
   upperLeft = λ l t. omega (arith, left l, r .top t);
-  lowerRight = λ l t. omega (arith, right l, r .width8, r .bottom t);
+  lowerRight = λ l t. omega (arith, right l, r .bottom t);
 })
   where
-    left : not (stepOpen width ctb list (s .left) (8 * x)) ≡ false → (0 < 8 * x) × (8 * x < width)
-    left l = open-within width ctb list (s .left) (8 * x) (not-false _ l)
+    left : not (stepOpen width ctb list (s .left) (8 * x)) ≡ false → 1 ≤ x
+    left = block-before width ctb list (s .left) x
 
-    right : not (stepOpen width ctb list (s .right) (8 * x + 8)) ≡ false → (0 < 8 * x + 8) × (8 * x + 8 < width)
-    right l = open-within width ctb list (s .right) (8 * x + 8) (not-false _ l)
+    right : not (stepOpen width ctb list (s .right) (8 * x + 8)) ≡ false → x + 2 ≤ width / 8
+    right = block-after width ctb list (s .right) x (r .width8)
 
 -- the first block of a row
 pub row-begins : {p : Picture} {ctb : ℕ} {region : List ℕ} → BlocksOf p ctb region → (y : ℕ) → y < p .height / 8
@@ -92,10 +100,10 @@ row-in {p} {ctb} {region} b list s y h e = rw e (record {
     room n k = rw (b .numbers, mul-comm (p .width / 8)) (mul-le-mul-right (p .width / 8) k)
 
     above : not (stepOpen (p .height) ctb list (disables (s .top)) (8 * y)) ≡ false → 1 ≤ y
-    above t = omega (arith, open-within (p .height) ctb list (disables (s .top)) (8 * y) (not-false _ t))
+    above = block-before (p .height) ctb list (disables (s .top)) y
 
     below : not (stepOpen (p .height) ctb list (disables (s .bottom)) (8 * y + 8)) ≡ false → y + 2 ≤ p .height / 8
-    below t = omega (arith, open-within (p .height) ctb list (disables (s .bottom)) (8 * y + 8) (not-false _ t), b .height8)
+    below = block-after (p .height) ctb list (disables (s .bottom)) y (b .height8)
 
 -- ---- the tests, as the code has them
 

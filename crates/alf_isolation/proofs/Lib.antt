@@ -6,3 +6,4 @@ pub mod Blocks
 pub mod CtbOrder
 pub mod CtbSteps
 pub mod CtbTests
+pub mod ListSearch

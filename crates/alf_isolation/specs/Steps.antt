@@ -13,6 +13,7 @@ use Rattle.alf_spec.specs.Lists.{implies, allBelow, elem}
 use Rattle.alf_spec.specs.Input.{Layout}
 use Rattle.alf_spec.specs.Geometry.{ctbOf}
 use Rattle.alf_spec.specs.Boundary.{disables}
+use Rattle.alf_isolation.specs.declared.steps.BlockEnds.{BlockEnds}
 use Rattle.alf_isolation.specs.declared.steps.BlockSides.{BlockSides}
 use Rattle.alf_isolation.specs.Blocks.{ctbPasses}
 
@@ -24,28 +25,41 @@ unfoldable pub stepOpen : ℕ → ℕ → List ℕ → Bool → ℕ → Bool
 stepOpen size ctb boundaries disabled b =
     (ltb 0 b && ltb b size) && (not (elem b boundaries) && (not (eqb (b % ctb) 0) || not disabled))
 
--- of a row of blocks y in a CTB with the sides s. Top and bottom are flagged where no step across them is open; the corners count in the
--- CTB's first and last row.
-unfoldable pub rowSides : ℕ → ℕ → List ℕ → Sides → ℕ → BlockSides
-rowSides height ctb boundaries s y = record {
-  left = disables (s .left);
-  right = disables (s .right);
-  top = not (stepOpen height ctb boundaries (disables (s .top)) (8 * y));
-  bottom = not (stepOpen height ctb boundaries (disables (s .bottom)) (8 * y + 8));
-  «upper_left» = eqb ((8 * y) % ctb) 0 && s .«upper_left»;
-  «lower_right» = eqb ((8 * y + 8) % ctb) 0 && s .«lower_right»;
+-- the ends of block x along an axis, in a CTB at whose ends filtering is disabled or not: no step is open across the block's own end, and
+-- the CTB ends there too
+abbrev pub blockEnds : ℕ → ℕ → List ℕ → Bool → Bool → ℕ → BlockEnds
+blockEnds size ctb boundaries disabledBefore disabledAfter x = record {
+  «shut_before» = not (stepOpen size ctb boundaries disabledBefore (8 * x));
+  «shut_after» = not (stepOpen size ctb boundaries disabledAfter (8 * x + 8));
+  «ctb_before» = eqb ((8 * x) % ctb) 0;
+  «ctb_after» = eqb ((8 * x + 8) % ctb) 0;
 }
 
--- the same of the block at column x in a row with the sides s
+-- the sides of the row of blocks y in a CTB with the sides s: a corner counts where the CTB ends
+unfoldable pub rowSides : ℕ → ℕ → List ℕ → Sides → ℕ → BlockSides
+rowSides height ctb boundaries s y =
+    let ends = blockEnds height ctb boundaries (disables (s .top)) (disables (s .bottom)) y in
+    record {
+      left = disables (s .left);
+      right = disables (s .right);
+      top = ends .«shut_before»;
+      bottom = ends .«shut_after»;
+      «upper_left» = ends .«ctb_before» && s .«upper_left»;
+      «lower_right» = ends .«ctb_after» && s .«lower_right»;
+    }
+
+-- the sides of the block at column x in a row with the sides s: a corner counts where the CTB ends
 unfoldable pub blockSides : ℕ → ℕ → List ℕ → BlockSides → ℕ → BlockSides
-blockSides width ctb boundaries s x = record {
-  left = not (stepOpen width ctb boundaries (s .left) (8 * x));
-  right = not (stepOpen width ctb boundaries (s .right) (8 * x + 8));
-  top = s .top;
-  bottom = s .bottom;
-  «upper_left» = eqb ((8 * x) % ctb) 0 && s .«upper_left»;
-  «lower_right» = eqb ((8 * x + 8) % ctb) 0 && s .«lower_right»;
-}
+blockSides width ctb boundaries s x =
+    let ends = blockEnds width ctb boundaries (s .left) (s .right) x in
+    record {
+      left = ends .«shut_before»;
+      right = ends .«shut_after»;
+      top = s .top;
+      bottom = s .bottom;
+      «upper_left» = ends .«ctb_before» && s .«upper_left»;
+      «lower_right» = ends .«ctb_after» && s .«lower_right»;
+    }
 
 -- ---- blocks, by their index in a region of so many columns
 

@@ -3,5 +3,6 @@
 mod neighbours;
 mod regions;
 mod steps;
+mod virtual_boundaries;
 
 pub use regions::region_isolated;

@@ -17,7 +17,7 @@ fn inside_before(disabled: bool, region: &[u8], k: usize, by: usize) -> bool
     if disabled { true } else { region[k - by] == 1 }
 }
 
-// The same of the block `by` places after k.
+// Whether a step over a side or a corner leads into the region, to the block `by` places after k; where it is disabled, there is no step.
 fn inside_after(disabled: bool, region: &[u8], k: usize, by: usize) -> bool
     requires { ⌜ (disabled ≡ false → k + by < length (now region)) ⌝ }
     ensures { λ r. ⌜ r ≡ (disabled || insideAt (now (region .entry)) (k + by)) ⌝ }

@@ -2,9 +2,9 @@
 // known by their place in the picture, counted in blocks.
 ghost use mathlib.Core.Path.{_≡_};
 ghost use Prim.Native.Nat.{_≤_, _<_};
-ghost use Rattle.alf_isolation.specs.Steps.{stepOpen, rowSides, blockSides};
+ghost use Rattle.alf_isolation.specs.Steps.{stepOpen, blockEnds, rowSides, blockSides};
+use crate::virtual_boundaries::is_listed;
 use alf_boundary::causes::disables;
-use alf_boundary::virtual_boundaries::is_listed;
 use alf_spec::Sides;
 
 // The sides and corners of a block, or of a row of blocks in a CTB: true where no step across is open.
@@ -17,6 +17,14 @@ pub struct BlockSides {
     pub lower_right: bool,
 }
 
+// The two ends of a block along one axis: whether no step across is open, and whether the CTB ends there too.
+struct BlockEnds {
+    pub shut_before: bool,
+    pub shut_after: bool,
+    pub ctb_before: bool,
+    pub ctb_after: bool,
+}
+
 // Whether a step across the boundary b of an axis is open.
 fn step_is_open(size: u32, ctb: u32, boundaries: &[u16], disabled: bool, b: u32) -> bool
     requires { ⌜ 0 < ctb ⌝ }
@@ -25,28 +33,50 @@ fn step_is_open(size: u32, ctb: u32, boundaries: &[u16], disabled: bool, b: u32)
     ((0 < b) & (b < size)) & (!is_listed(boundaries, b) & ((b % ctb != 0) | !disabled))
 }
 
-// The sides of a row of blocks, from those of its CTB: no step is open either at virtual boundaries and at the picture's rim.
+// The ends of the block at place x along an axis, from what is disabled before and after its CTB: no step is open either at virtual
+// boundaries and at the picture's rim.
+fn block_ends(
+    size: u32,
+    ctb: u32,
+    boundaries: &[u16],
+    disabled_before: bool,
+    disabled_after: bool,
+    x: u32,
+) -> BlockEnds
+    requires { ⌜ (0 < ctb) × (x ≤ 512) ⌝ }
+    ensures { λ e. ⌜ e ≡ blockEnds size ctb (now (boundaries .entry)) «disabled_before» «disabled_after» x ⌝ }
+{
+    let before = 8 * x;
+    let after = before + 8;
+    BlockEnds {
+        shut_before: !step_is_open(size, ctb, boundaries, disabled_before, before),
+        shut_after: !step_is_open(size, ctb, boundaries, disabled_after, after),
+        ctb_before: before % ctb == 0,
+        ctb_after: after % ctb == 0,
+    }
+}
+
+// The sides of a row of blocks, from those of its CTB: top and bottom are its own, and the corners count at the CTB's top and bottom.
 pub fn row_sides(height: u32, ctb: u32, boundaries: &[u16], sides: Sides, y: u32) -> BlockSides
     requires { ⌜ (0 < ctb) × (y ≤ 512) ⌝ }
     ensures { λ s. ⌜ s ≡ rowSides height ctb (now (boundaries .entry)) sides y ⌝ }
 {
-    let above = 8 * y;
-    let below = above + 8;
     let left = sides.left;
     let right = sides.right;
     let top = sides.top;
     let bottom = sides.bottom;
+    let ends = block_ends(height, ctb, boundaries, disables(top), disables(bottom), y);
     BlockSides {
         left: disables(left),
         right: disables(right),
-        top: !step_is_open(height, ctb, boundaries, disables(top), above),
-        bottom: !step_is_open(height, ctb, boundaries, disables(bottom), below),
-        upper_left: (above % ctb == 0) & sides.upper_left,
-        lower_right: (below % ctb == 0) & sides.lower_right,
+        top: ends.shut_before,
+        bottom: ends.shut_after,
+        upper_left: ends.ctb_before & sides.upper_left,
+        lower_right: ends.ctb_after & sides.lower_right,
     }
 }
 
-// The sides of a block, from those of its row, in the same way.
+// The sides of a block, from those of its row: left and right are its own, and the corners count at the CTB's left and right.
 pub fn block_sides(
     width: u32,
     ctb: u32,
@@ -57,14 +87,13 @@ pub fn block_sides(
     requires { ⌜ (0 < ctb) × (x ≤ 512) ⌝ }
     ensures { λ s. ⌜ s ≡ blockSides width ctb (now (boundaries .entry)) sides x ⌝ }
 {
-    let before = 8 * x;
-    let after = before + 8;
+    let ends = block_ends(width, ctb, boundaries, sides.left, sides.right, x);
     BlockSides {
-        left: !step_is_open(width, ctb, boundaries, sides.left, before),
-        right: !step_is_open(width, ctb, boundaries, sides.right, after),
+        left: ends.shut_before,
+        right: ends.shut_after,
         top: sides.top,
         bottom: sides.bottom,
-        upper_left: (before % ctb == 0) & sides.upper_left,
-        lower_right: (after % ctb == 0) & sides.lower_right,
+        upper_left: ends.ctb_before & sides.upper_left,
+        lower_right: ends.ctb_after & sides.lower_right,
     }
 }

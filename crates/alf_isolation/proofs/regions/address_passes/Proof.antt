@@ -19,11 +19,11 @@ address-passes-spec =
     (λ c. search needs)
     (λ c. search needs)
     (λ c κs.
-    let s = c .before .before .before .before .before .before .before .before .before .before in
+    let s : tie.Start = search needs in
     in-grid (layout s) _ (s .pre .2) _ (s .pre .0) _ (s .pre .1))
     (λ c κs.
-    let s = c .before .before .before .before .before .before .before .before .before .before .before in
+    let s : tie.Start = search needs in
     in-region (layout s) _ (s .pre .2) _ (s .pre .0) _ (s .pre .1))
     (λ c.
-    let s = c .before .before .before .before .before .before .before .before .before .before .before .before in
+    let s : tie.Start = search needs in
     address-passes (layout s) _ (s .pre .2) _ (s .pre .0) _ (s .pre .1) (c .before .sides-of .ensures _ _) (c .ctb-passes .ensures)))

@@ -23,10 +23,10 @@ ctb-passes-spec =
     Inv-loop
     μ-loop
     (λ c.
-    let s = c .before .before .before .before .before in
+    let s : tie.Start Inv-loop μ-loop = search needs in
     omega (arith, first-block (s .args .picture .width) (s .args .grid .ctb) (s .args .ctb .column) (s .pre .0 .ctb8) (s .pre .1)))
     (λ c.
-    let s = c .before .before .before .before .before .before in
+    let s : tie.Start Inv-loop μ-loop = search needs in
     omega (arith, first-block (s .args .picture .height) (s .args .grid .ctb) (s .args .ctb .row) (s .pre .0 .ctb8) (s .pre .2)))
     (λ c κs. search needs)
     (λ c κs. search needs)

@@ -34,7 +34,7 @@ region-isolated-spec =
     Inv-loop
     μ-loop
     (λ c κs.
-    let s = c .before .before .before .before .before .before .before .before in
+    let s : tie.Start Inv-loop μ-loop = search needs in
     let ok = accepted-layout (layout s) _ (s .pre) in
     (ok .sizes, ok .ctbSize))
     (λ c. omega (arith, few-ctbs (c .before .grid .ensures)))

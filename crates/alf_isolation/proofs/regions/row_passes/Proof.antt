@@ -11,7 +11,7 @@ row-passes-spec =
     (tie.spec
     (λ c κs. search needs)
     (λ c.
-    let s = c .before .before .before .before .before in
+    let s : tie.Start = search needs in
     omega (arith, row-begins (s .pre .0) (s .args .y) (s .pre .2)))
     (λ c κs. (search row-in, search needs))
     (λ c. row-test _ _ _ _ _ _ _ _ _ (c .before .before .row-sides .ensures) (c .run-passes .ensures)))

@@ -1,4 +1,4 @@
--- `alf_isolation::steps::row_sides` meets its contract. Assumes nothing.
+-- `alf_isolation::steps::row_sides` meets its contract: its ends along the rows. Assumes nothing.
 use borrow.Author.Needs.{needs}
 use Rattle.alf_isolation.specs.Steps.{rowSides}
 use Rattle.alf_isolation.proofs.steps.row_sides.Statement.{statement}
@@ -9,25 +9,21 @@ unfolding rowSides
 row-sides-spec =
     tie.close
     (tie.spec
-    (λ c. search needs)
-    (λ c. search needs)
     (λ c κs. search needs)
     (λ c κs. search needs)
     (λ c κs. search needs)
     (λ c κs. search needs)
     (λ c κs. search needs)
-    (λ c κs. search needs)
-    (λ c. search needs)
-    (λ c. search needs)
     (λ c.
-    let bottom = c .before .before in
-    let top = bottom .before .before in
-    let right = top .before .before in
+    let top : tie.After-disables = search needs in
+    let bottom : tie.After-disables2 = search needs in
+    let ends : tie.After-block-ends = search needs in
+    let left : tie.After-disables3 = search needs in
+    let right : tie.After-disables4 = search needs in
     rw (
-      bottom .step-is-open2 .ensures,
-      bottom .before .disables4 .ensures,
-      top .step-is-open .ensures,
-      top .before .disables3 .ensures,
-      right .disables2 .ensures,
-      right .before .disables .ensures,
+      right .disables4 .ensures,
+      left .disables3 .ensures,
+      ends .block-ends .ensures,
+      bottom .disables2 .ensures,
+      top .disables .ensures,
     )))

@@ -1,11 +1,11 @@
--- `alf_boundary::virtual_boundaries::is_listed` meets its contract: what is passed is another number. Assumes nothing.
+-- `alf_isolation::virtual_boundaries::is_listed` meets its contract: what is passed is another number. Assumes nothing.
 use Prim.Native.Nat.{_-_}
 use native.Mathlib.Omega.{arith}
 use borrow.Author.Needs.{needs}
 use lib.ListN.{length}
-use Rattle.alf_boundary.proofs.Lists.{Unmet, unmet-none, unmet-more, unmet-found, unmet-done}
-use Rattle.alf_boundary.proofs.virtual_boundaries.is_listed.Statement.{statement}
-use Rattle.alf_boundary.proofs.virtual_boundaries.is_listed.Tie as tie
+use Rattle.alf_isolation.proofs.ListSearch.{Unmet, unmet-none, unmet-more, unmet-found, unmet-done}
+use Rattle.alf_isolation.proofs.virtual_boundaries.is_listed.Statement.{statement}
+use Rattle.alf_isolation.proofs.virtual_boundaries.is_listed.Tie as tie
 
 abbrev Inv-loop : tie.InvT-loop
 Inv-loop boundaries b i₀ i = Unmet b boundaries i
