@@ -6,7 +6,7 @@ ghost use lib.ListN.{length, getD};
 ghost use Rattle.alf_spec.specs.Input.{Input};
 ghost use Rattle.alf_spec.specs.Geometry.{address};
 ghost use Rattle.alf_spec.specs.declared.Ctb.{Ctb};
-ghost use Rattle.alf_params.specs.Tables.{CtbTables, TablesOf};
+ghost use Rattle.alf_params.specs.Tables.{CtbTables, TablesGiven};
 ghost use Rattle.alf_ctb.specs.Filters.{isOn, OwnFilter};
 ghost use Rattle.alf_ctb.specs.Work.{Numbers};
 ghost use Rattle.alf_ctb.specs.Tables.{ComponentOf, FixedGiven, FixedSame, Switched};
@@ -49,7 +49,7 @@ pub fn load(
         × (length (now filters) ≡ 600)
         × ((j : ℕ) → getD (now filters) j (pos 0) ≡ pos 0) ⌝ }
     ensures { λ _. ⌜ (Numbers filter (now (filters .exit))) × ((i : Input) (c : Ctb)
-        → TablesOf i c (now («slice_map» .entry)) (now («slice_params» .entry)) (now (bank .entry)) (now («ctb_params» .entry)) k
+        → TablesGiven i c (now («slice_map» .entry)) (now («slice_params» .entry)) (now (bank .entry)) (now («ctb_params» .entry)) k
         → FixedSame filter i depth (now («fixed_filters» .entry)) (now («fixed_map» .entry))
         → OwnFilter filter i c (now (filters .exit))) ⌝ }
 {

@@ -156,11 +156,13 @@ module _ (op : Operation) (i : Input) (ok : fault op i ≡ 0) where
         let r = ranges i k (all-at (ctbTotal (i .layout)) (ctbParamsValidAt i) (parameters .1) k h) in
         let inMap : k < length (i .layout .sliceMap) = omega (arith, table-lengths (i .layout) (accepted op i ok .0 .lengths) .sliceMap) in
         record {
-          bankNumbers = accepted-bank;
-          inMap = inMap;
-          sliceNumbers = omega (arith, filter-lengths .0, slice-below k inMap);
+          slice = record {
+            bankNumbers = accepted-bank;
+            inMap = inMap;
+            sliceNumbers = omega (arith, filter-lengths .0, slice-below k inMap);
+            sliceRange = λ n. slice-range _;
+          };
           ctbNumbers = omega (arith, filter-lengths .2);
-          sliceRange = λ n. slice-range _;
           lumaSets = rw (own-number t 3, slice-number t 0) at (r .lumaSets);
           alternatives = λ component e. rw (own-number t (4 + component)) at (r .alternatives component e);
           crossIndices = λ component e. rw (own-number t (6 + component)) at (r .crossIndices component e);

@@ -1,4 +1,4 @@
--- The range of each number of the bank, by its place in an APS. Assumes nothing.
+-- The range of each number of the bank, by its number in an APS. Assumes nothing.
 use mathlib.Core.Path.{_≡_, refl}
 use mathlib.Core.Bool.{Bool, true, false}
 use mathlib.Core.List.{List}
@@ -14,67 +14,69 @@ use Rattle.alf_math.specs.Integers.{CoeffRange, ClipRange}
 use Rattle.alf_params.specs.Tables.{BankNumbers}
 
 -- number r of piece q, where each has m
-pub place-in : (m q r : ℕ) → r < m → (m * q + r) % m ≡ r
-place-in m q r h = rw (mul-comm m q) (digits-mod q h)
+pub number-in : (m q r : ℕ) → r < m → (m * q + r) % m ≡ r
+number-in m q r h = rw (mul-comm m q) (digits-mod q h)
 
 pub piece-of : (m q r : ℕ) → r < m → (m * q + r) / m ≡ q
 piece-of m q r h = rw (mul-comm m q) (digits-div q h)
 
--- whether a place of an APS is a clip's
+-- whether a number of an APS is a clip: those of luma
 module _ (filter j : ℕ) (class : filter < 25) (tap : j < 12) where
-  luma-coefficient-place : isClip (24 * filter + j) ≡ false
+  luma-coefficient-test : isClip (24 * filter + j) ≡ false
   unfolding isClip
-  luma-coefficient-place = rw (lt-ltb (24 * filter + j) 600 (omega arith), place-in 24 filter j (omega arith)) (lt-leb 12 j tap)
+  luma-coefficient-test = rw (lt-ltb (24 * filter + j) 600 (omega arith), number-in 24 filter j (omega arith)) (lt-leb 12 j tap)
 
-  luma-clip-place : isClip (24 * filter + (12 + j)) ≡ true
+  luma-clip-test : isClip (24 * filter + (12 + j)) ≡ true
   unfolding isClip
-  luma-clip-place = rw (lt-ltb (24 * filter + (12 + j)) 600 (omega arith), place-in 24 filter (12 + j) (omega arith))
+  luma-clip-test = rw (lt-ltb (24 * filter + (12 + j)) 600 (omega arith), number-in 24 filter (12 + j) (omega arith))
       (le-leb 12 (12 + j) (omega arith))
 
+-- whether a number of an APS is a clip: those of chroma
 module _ (alternative j : ℕ) (few : alternative ≤ 7) where
-  -- what stands there, counted from the first alternative on
+  -- counted from the first alternative on
   in-alternative : j < 12 → (600 + 12 * alternative + j - 600) % 12 ≡ j
-  in-alternative h = let e : 600 + 12 * alternative + j - 600 ≡ 12 * alternative + j = omega arith in rw e (place-in 12 alternative j h)
+  in-alternative h = let e : 600 + 12 * alternative + j - 600 ≡ 12 * alternative + j = omega arith in rw e (number-in 12 alternative j h)
 
-  chroma-coefficient-place : j < 6 → isClip (600 + 12 * alternative + j) ≡ false
+  chroma-coefficient-test : j < 6 → isClip (600 + 12 * alternative + j) ≡ false
   unfolding isClip
-  chroma-coefficient-place h =
+  chroma-coefficient-test h =
       let p : ℕ = 600 + 12 * alternative + j in
       rw (le-ltb p 600 (omega arith), lt-ltb p 696 (omega arith), in-alternative (omega arith)) (lt-leb 6 j h)
 
-  chroma-clip-place : 6 ≤ j → j < 12 → isClip (600 + 12 * alternative + j) ≡ true
+  chroma-clip-test : 6 ≤ j → j < 12 → isClip (600 + 12 * alternative + j) ≡ true
   unfolding isClip
-  chroma-clip-place l h =
+  chroma-clip-test l h =
       let p : ℕ = 600 + 12 * alternative + j in
       rw (le-ltb p 600 (omega arith), lt-ltb p 696 (omega arith), in-alternative h) (le-leb 6 j l)
 
-cross-place : (p : ℕ) → 696 ≤ p → isClip p ≡ false
+-- no number of a cross-component filter is a clip
+cross-test : (p : ℕ) → 696 ≤ p → isClip p ≡ false
 unfolding isClip
-cross-place p h = rw (le-ltb p 600 (omega arith), le-ltb p 696 h)
+cross-test p h = rw (le-ltb p 600 (omega arith), le-ltb p 696 h)
 
 module _ {bank : List ℤ} (b : BankNumbers bank) (aps : ℕ) where
   coefficient : (p : ℕ) → p < 752 → isClip p ≡ false → CoeffRange (getD bank (752 * aps + p) (pos 0))
-  coefficient p h e = b .coefficients (752 * aps + p) (rw (place-in 752 aps p h) e)
+  coefficient p h e = b .coefficients (752 * aps + p) (rw (number-in 752 aps p h) e)
 
   clip : (p : ℕ) → p < 752 → isClip p ≡ true → ClipRange (getD bank (752 * aps + p) (pos 0))
-  clip p h e = b .clips (752 * aps + p) (rw (place-in 752 aps p h) e)
+  clip p h e = b .clips (752 * aps + p) (rw (number-in 752 aps p h) e)
 
   pub luma-coefficient : (filter j : ℕ) → filter < 25 → j < 12 → CoeffRange (getD bank (752 * aps + (24 * filter + j)) (pos 0))
-  luma-coefficient filter j class tap = coefficient _ (omega arith) (luma-coefficient-place filter j class tap)
+  luma-coefficient filter j class tap = coefficient _ (omega arith) (luma-coefficient-test filter j class tap)
 
   pub luma-clip : (filter j : ℕ) → filter < 25 → j < 12 → ClipRange (getD bank (752 * aps + (24 * filter + (12 + j))) (pos 0))
-  luma-clip filter j class tap = clip _ (omega arith) (luma-clip-place filter j class tap)
+  luma-clip filter j class tap = clip _ (omega arith) (luma-clip-test filter j class tap)
 
   pub chroma-coefficient : (alternative j : ℕ) → alternative ≤ 7 → j < 6
       → CoeffRange (getD bank (752 * aps + (600 + 12 * alternative + j)) (pos 0))
-  chroma-coefficient alternative j few h = coefficient _ (omega arith) (chroma-coefficient-place alternative j few h)
+  chroma-coefficient alternative j few h = coefficient _ (omega arith) (chroma-coefficient-test alternative j few h)
 
   pub chroma-clip : (alternative j : ℕ) → alternative ≤ 7 → 6 ≤ j → j < 12
       → ClipRange (getD bank (752 * aps + (600 + 12 * alternative + j)) (pos 0))
-  chroma-clip alternative j few l h = clip _ (omega arith) (chroma-clip-place alternative j few l h)
+  chroma-clip alternative j few l h = clip _ (omega arith) (chroma-clip-test alternative j few l h)
 
   pub cross-coefficient : (p : ℕ) → 696 ≤ p → p < 752 → CoeffRange (getD bank (752 * aps + p) (pos 0))
-  cross-coefficient p l h = coefficient p h (cross-place p l)
+  cross-coefficient p l h = coefficient p h (cross-test p l)
 
 -- coefficients and clips alike fit 16 bits
 pub bank-small : {bank : List ℤ} → BankNumbers bank → (n : ℕ) → natAbs (getD bank n (pos 0)) ≤ 4096

@@ -12,10 +12,10 @@ use Rattle.alf_lists.specs.Filled.{Filled, same}
 use Rattle.alf_lists.proofs.Painted.{fill-call}
 use Rattle.alf_lists.proofs.Regions.{run-facts, run-join}
 use Rattle.alf_params.specs.Numbers.{copiedFrom, fixedNumber}
-use Rattle.alf_params.proofs.BankRanges.{place-in, piece-of}
+use Rattle.alf_params.proofs.BankRanges.{number-in, piece-of}
 
 module _ (depth set : ℕ) (fixedFilters : List ℤ) (fixedMap : List ℕ) (class : ℕ) where
-  -- place j of the class
+  -- number j of the class
   here : (j : ℕ) → copiedFrom fixedFilters (12 * getD fixedMap (25 * set + class) 0) (24 * class) (24 * class + j)
       ≡ getD fixedFilters (12 * getD fixedMap (25 * set + class) 0 + j) (pos 0)
   unfolding copiedFrom
@@ -28,7 +28,7 @@ module _ (depth set : ℕ) (fixedFilters : List ℤ) (fixedMap : List ℕ) (clas
       let h = run-facts (24 * class) 12 k t in
       let j : ℕ = k - 24 * class in
       let e : k ≡ 24 * class + j = omega arith in
-      rw (e, place-in 24 class j (omega arith), piece-of 24 class j (omega arith), lt-ltb j 12 (omega arith)) (here j)
+      rw (e, number-in 24 class j (omega arith), piece-of 24 class j (omega arith), lt-ltb j 12 (omega arith)) (here j)
 
   clip-here : (k : ℕ) → between (24 * class + 12) 12 k ≡ true → pos (2 ^ depth) ≡ fixedNumber depth set fixedFilters fixedMap k
   unfolding fixedNumber
@@ -36,9 +36,9 @@ module _ (depth set : ℕ) (fixedFilters : List ℤ) (fixedMap : List ℕ) (clas
       let h = run-facts (24 * class + 12) 12 k t in
       let j : ℕ = k - 24 * class in
       let e : k ≡ 24 * class + j = omega arith in
-      rw (e, place-in 24 class j (omega arith), le-ltb j 12 (omega arith))
+      rw (e, number-in 24 class j (omega arith), le-ltb j 12 (omega arith))
 
-  -- its coefficients, and then its clips
+  -- the coefficients of a class, and then its clips
   pub fixed-more : {xs ys one two : List ℤ} → Filled (pos 0) xs (between 0 (24 * class)) (fixedNumber depth set fixedFilters fixedMap) ys
       → Filled (pos 0) ys (between (24 * class) 12) (copiedFrom fixedFilters (12 * getD fixedMap (25 * set + class) 0) (24 * class)) one
       → Filled (pos 0) one (between (24 * class + 12) 12) (same (pos (2 ^ depth))) two

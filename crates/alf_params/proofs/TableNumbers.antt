@@ -13,7 +13,7 @@ use Rattle.alf_spec.specs.Geometry.{address}
 use Rattle.alf_spec.specs.Boundary.{sliceOf}
 use Rattle.alf_spec.specs.Parameters.{ctbParam, sliceParam, bankNumber}
 use Rattle.alf_spec.specs.Process.{crossOn}
-use Rattle.alf_params.specs.Tables.{sliceNumber, ctbNumber, TablesOf, FixedOf}
+use Rattle.alf_params.specs.Tables.{sliceNumber, ctbNumber, TablesGiven, FixedOf}
 
 pub ctb-param : (i : Input) (c : Ctb) {ctbParams : List ℕ} {k : ℕ} → i .ctbParams ≡ ctbParams → address (i .layout) c ≡ k
     → (n : ℕ) → ctbParam i c n ≡ ctbNumber ctbParams k n
@@ -21,7 +21,7 @@ unfolding ctbParam
 ctb-param i c p q n = ap₂ (λ (xs : List ℕ) (a : ℕ). ctbNumber xs a n) p q
 
 module _ {i : Input} {c : Ctb} {sliceMap sliceParams : List ℕ} {bank : List ℤ} {ctbParams : List ℕ} {k : ℕ}
-    (t : TablesOf i c sliceMap sliceParams bank ctbParams k) where
+    (t : TablesGiven i c sliceMap sliceParams bank ctbParams k) where
   pub own-number : (n : ℕ) → ctbParam i c n ≡ ctbNumber ctbParams k n
   own-number = ctb-param i c (t .sameCtbParams) (t .atAddress)
 
@@ -41,7 +41,7 @@ module _ {i : Input} {c : Ctb} {sliceMap sliceParams : List ℕ} {bank : List �
 
 -- an input's own tables
 pub own-tables : (i : Input) (c : Ctb) {k : ℕ} → address (i .layout) c ≡ k
-    → TablesOf i c (i .layout .sliceMap) (i .sliceParams) (i .bank) (i .ctbParams) k
+    → TablesGiven i c (i .layout .sliceMap) (i .sliceParams) (i .bank) (i .ctbParams) k
 own-tables i c e = record { sameSliceMap = refl; sameSliceParams = refl; sameBank = refl; sameCtbParams = refl; atAddress = e }
 
 pub own-fixed : (i : Input) → FixedOf i (i .layout .picture .«bit_depth») (i .fixedFilters) (i .fixedMap)

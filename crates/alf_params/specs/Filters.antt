@@ -12,12 +12,12 @@ use Rattle.alf_math.specs.Integers.{CoeffRange, ClipRange}
 
 -- ---- luma: 24 numbers for each of 25 classes, 12 coefficients and 12 clips
 
--- they are those of the CTB c
+-- the luma filters are those of the CTB c
 pub record LumaFilters (i : Input) (c : Ctb) (filters : List ℤ) : Type 0 where
   pub coefficients : (filter j : ℕ) → filter < 25 → j < 12 → getD filters (24 * filter + j) (pos 0) ≡ lumaF i c filter j
   pub clips : (filter j : ℕ) → filter < 25 → j < 12 → getD filters (24 * filter + (12 + j)) (pos 0) ≡ lumaC i c filter j
 
--- they are in their ranges
+-- the numbers of the luma filters are in their ranges
 pub record FilterNumbers (filters : List ℤ) : Type 0 where
   pub count : length filters ≡ 600
   pub coefficients : (filter j : ℕ) → filter < 25 → j < 12 → CoeffRange (getD filters (24 * filter + j) (pos 0))

@@ -15,25 +15,30 @@ use Rattle.alf_math.specs.Integers.{CoeffRange, ClipRange}
 abbrev pub sliceNumber : List ℕ → List ℕ → ℕ → ℕ → ℕ
 sliceNumber sliceMap sliceParams k n = getD sliceParams (11 * getD sliceMap k 0 + n) 0
 
--- number n of the eight that the CTB itself has
+-- number n of the eight that the CTB at address k has
 abbrev pub ctbNumber : List ℕ → ℕ → ℕ → ℕ
 ctbNumber ctbParams k n = getD ctbParams (8 * k + n) 0
 
--- ---- what functions ask of them
+-- ---- what functions ask of the tables
 
--- the eight APSs, each number in the range of its place; a clip's is that of the largest bit depth
+-- the eight APSs, each coefficient and each clip in its range; a clip's is that of the largest bit depth
 pub record BankNumbers (bank : List ℤ) : Type 0 where
   pub count : length bank ≡ 8 * 752
   pub coefficients : (n : ℕ) → isClip (n % 752) ≡ false → CoeffRange (getD bank n (pos 0))
   pub clips : (n : ℕ) → isClip (n % 752) ≡ true → ClipRange (getD bank n (pos 0))
 
--- for the CTB at address k: its slice's numbers and its own are there, and name an APS, an alternative and filters that are there
-pub record CtbTables (sliceMap sliceParams : List ℕ) (bank : List ℤ) (ctbParams : List ℕ) (k : ℕ) : Type 0 where
+-- the numbers of the slice of the CTB at address k are there, and name APSs that are there
+pub record SliceTables (sliceMap sliceParams : List ℕ) (bank : List ℤ) (k : ℕ) : Type 0 where
   pub bankNumbers : BankNumbers bank
   pub inMap : k < length sliceMap
   pub sliceNumbers : 11 * getD sliceMap k 0 + 11 ≤ length sliceParams
-  pub ctbNumbers : 8 * k + 8 ≤ length ctbParams
   pub sliceRange : (n : ℕ) → sliceNumber sliceMap sliceParams k n ≤ 7
+
+-- the numbers of the CTB at address k, and of its slice, are there, and name a luma set, alternatives and cross-component filters that are
+-- there
+pub record CtbTables (sliceMap sliceParams : List ℕ) (bank : List ℤ) (ctbParams : List ℕ) (k : ℕ) : Type 0 where
+  pub slice : SliceTables sliceMap sliceParams bank k
+  pub ctbNumbers : 8 * k + 8 ≤ length ctbParams
   pub lumaSets : ctbNumber ctbParams k 3 ≤ 15 + sliceNumber sliceMap sliceParams k 0
   pub alternatives : (component : ℕ) → component ≤ 1 → ctbNumber ctbParams k (4 + component) ≤ 7
   pub crossIndices : (component : ℕ) → component ≤ 1 → ctbNumber ctbParams k (6 + component) ≤ 4
@@ -46,17 +51,17 @@ pub record FixedTables (depth : ℕ) (fixedFilters : List ℤ) (fixedMap : List 
   pub coefficients : (n : ℕ) → CoeffRange (getD fixedFilters n (pos 0))
   pub mapRange : (n : ℕ) → getD fixedMap n 0 < 64
 
--- ---- whose they are
+-- ---- whose the tables are
 
 -- the input i has these tables, and c is its CTB at address k
-pub record TablesOf (i : Input) (c : Ctb) (sliceMap sliceParams : List ℕ) (bank : List ℤ) (ctbParams : List ℕ) (k : ℕ) : Type 0 where
+pub record TablesGiven (i : Input) (c : Ctb) (sliceMap sliceParams : List ℕ) (bank : List ℤ) (ctbParams : List ℕ) (k : ℕ) : Type 0 where
   pub sameSliceMap : i .layout .sliceMap ≡ sliceMap
   pub sameSliceParams : i .sliceParams ≡ sliceParams
   pub sameBank : i .bank ≡ bank
   pub sameCtbParams : i .ctbParams ≡ ctbParams
   pub atAddress : address (i .layout) c ≡ k
 
--- it has this bit depth and these fixed tables
+-- the input i has this bit depth and these fixed tables
 pub record FixedOf (i : Input) (depth : ℕ) (fixedFilters : List ℤ) (fixedMap : List ℕ) : Type 0 where
   pub sameDepth : i .layout .picture .«bit_depth» ≡ depth
   pub sameFilters : i .fixedFilters ≡ fixedFilters

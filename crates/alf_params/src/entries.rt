@@ -12,7 +12,7 @@ pub(crate) fn ctb_number(ctb_params: &[u8], k: usize, n: usize) -> u8
     ctb_params[8 * k + n]
 }
 
-// Number n of the eleven of its slice.
+// Number n of the eleven of the slice of the CTB at address k.
 pub(crate) fn slice_number(slice_map: &[u8], slice_params: &[u8], k: usize, n: usize) -> u8
     requires { ⌜ (k < length (now «slice_map»)) × (11 * getD (now «slice_map») k 0 + 11 ≤ length (now «slice_params»)) × (n < 11) ⌝ }
     ensures { λ r. ⌜ r ≡ sliceNumber (now («slice_map» .entry)) (now («slice_params» .entry)) k n ⌝ }

@@ -10,8 +10,8 @@ ghost use Rattle.alf_math.specs.Integers.{CoeffRange, ClipRange};
 ghost use Rattle.alf_lists.specs.Regions.{between};
 ghost use Rattle.alf_lists.specs.Filled.{Filled};
 ghost use Rattle.alf_params.specs.Filters.{LumaFilters, FilterNumbers, ChromaFilter};
-ghost use Rattle.alf_params.specs.Tables.{ctbNumber, CtbTables, FixedTables, TablesOf, FixedOf};
-ghost use Rattle.alf_params.specs.Numbers.{copiedFrom, fixedNumber};
+ghost use Rattle.alf_params.specs.Tables.{ctbNumber, SliceTables, CtbTables, FixedTables, TablesGiven, FixedOf};
+ghost use Rattle.alf_params.specs.Numbers.{copiedFrom, FromAps, fixedNumber};
 use crate::entries::ctb_number;
 use crate::entries::slice_number;
 use alf_lists::fill;
@@ -29,7 +29,7 @@ const FIXED_SETS: usize = 16;
 
 const CLASSES: usize = 25;
 
-// n numbers of a table from `from` on, to the places from `to` on.
+// n numbers of a table from index `from` on, put to the indices from `to` on.
 fn copy_numbers(table: &[i16], from: usize, n: usize, filters: &mut [i16], to: usize)
     requires { ⌜ (from + n ≤ length (now table)) × (to + n ≤ length (now filters))
         × ((k : ℕ) → natAbs (getD (now table) k (pos 0)) ≤ 4096) ⌝ }
@@ -67,6 +67,27 @@ fn load_fixed(depth: u32, set: usize, fixed_filters: &[i16], fixed_map: &[u8], f
     }
 }
 
+// n numbers of an APS, from its number `first` on, put to the front. Of the eleven numbers of the slice of the CTB at address k, number
+// `name` says which APS.
+fn load_from_aps(
+    name: usize,
+    first: usize,
+    n: usize,
+    k: usize,
+    slice_map: &[u8],
+    slice_params: &[u8],
+    bank: &[i16],
+    filters: &mut [i16],
+)
+    requires { ⌜ (SliceTables (now «slice_map») (now «slice_params») (now bank) k) × (name < 11) × (first + n ≤ 752)
+        × (n ≤ length (now filters)) ⌝ }
+    ensures { λ _. ⌜ FromAps (now («slice_map» .entry)) (now («slice_params» .entry)) (now (bank .entry)) k name first n
+        (now (filters .entry)) (now (filters .exit)) ⌝ }
+{
+    let aps = slice_number(slice_map, slice_params, k, name) as usize;
+    copy_numbers(bank, APS * aps + first, n, filters, 0);
+}
+
 // The 25 luma filters: those of a fixed set, or of one of the slice's luma APSs.
 pub fn load_luma(
     depth: u32,
@@ -82,15 +103,15 @@ pub fn load_luma(
     requires { ⌜ (CtbTables (now «slice_map») (now «slice_params») (now bank) (now «ctb_params») k)
         × (FixedTables depth (now «fixed_filters») (now «fixed_map»)) × (length (now filters) ≡ 600) ⌝ }
     ensures { λ _. ⌜ (FilterNumbers (now (filters .exit))) × ((i : Input) (c : Ctb)
-        → TablesOf i c (now («slice_map» .entry)) (now («slice_params» .entry)) (now (bank .entry)) (now («ctb_params» .entry)) k
+        → TablesGiven i c (now («slice_map» .entry)) (now («slice_params» .entry)) (now (bank .entry)) (now («ctb_params» .entry)) k
         → FixedOf i depth (now («fixed_filters» .entry)) (now («fixed_map» .entry)) → LumaFilters i c (now (filters .exit))) ⌝ }
 {
     let set = ctb_number(ctb_params, k, 3) as usize;
     if set < FIXED_SETS {
         load_fixed(depth, set, fixed_filters, fixed_map, filters);
     } else {
-        let aps = slice_number(slice_map, slice_params, k, 1 + (set - FIXED_SETS)) as usize;
-        copy_numbers(bank, APS * aps, LUMA, filters, 0);
+        let name = 1 + (set - FIXED_SETS);
+        load_from_aps(name, 0, LUMA, k, slice_map, slice_params, bank, filters);
     }
 }
 
@@ -108,12 +129,12 @@ pub fn load_chroma(
         × (length (now filters) ≡ 600) ⌝ }
     ensures { λ _. ⌜ ((j : ℕ) → j < 6 → CoeffRange (getD (now (filters .exit)) j (pos 0)))
         × ((j : ℕ) → j < 6 → ClipRange (getD (now (filters .exit)) (6 + j) (pos 0))) × ((i : Input) (c : Ctb)
-        → TablesOf i c (now («slice_map» .entry)) (now («slice_params» .entry)) (now (bank .entry)) (now («ctb_params» .entry)) k
+        → TablesGiven i c (now («slice_map» .entry)) (now («slice_params» .entry)) (now (bank .entry)) (now («ctb_params» .entry)) k
         → ChromaFilter i c component (now (filters .exit))) ⌝ }
 {
-    let aps = slice_number(slice_map, slice_params, k, 8) as usize;
     let alternative = ctb_number(ctb_params, k, 4 + component as usize) as usize;
-    copy_numbers(bank, APS * aps + (LUMA + 12 * alternative), 12, filters, 0);
+    let first = LUMA + 12 * alternative;
+    load_from_aps(8, first, 12, k, slice_map, slice_params, bank, filters);
 }
 
 // The cross-component filter of a chroma component, which has 7 coefficients alone. Index 1 is the first filter: 0 is off.
@@ -130,18 +151,21 @@ pub fn load_cross(
         × (0 < ctbNumber (now «ctb_params») k (6 + component)) × (length (now filters) ≡ 600)
         × ((j : ℕ) → getD (now filters) j (pos 0) ≡ pos 0) ⌝ }
     ensures { λ _. ⌜ ((j : ℕ) → CoeffRange (getD (now (filters .exit)) j (pos 0))) × ((i : Input) (c : Ctb)
-        → TablesOf i c (now («slice_map» .entry)) (now («slice_params» .entry)) (now (bank .entry)) (now («ctb_params» .entry)) k
+        → TablesGiven i c (now («slice_map» .entry)) (now («slice_params» .entry)) (now (bank .entry)) (now («ctb_params» .entry)) k
         → (j : ℕ) → j < 7 → getD (now (filters .exit)) j (pos 0) ≡ crossCoeff i (crossAps i c component) component
         (crossIndex i c component - 1) j) ⌝ }
 {
     let component = component as usize;
-    let aps = slice_number(slice_map, slice_params, k, 9 + component) as usize;
     let index = ctb_number(ctb_params, k, 6 + component) as usize;
-    copy_numbers(
-        bank,
-        APS * aps + (CROSS + 28 * component + 7 * (index - 1)),
+    let first = CROSS + 28 * component + 7 * (index - 1);
+    load_from_aps(
+        9 + component,
+        first,
         7,
+        k,
+        slice_map,
+        slice_params,
+        bank,
         filters,
-        0,
     );
 }

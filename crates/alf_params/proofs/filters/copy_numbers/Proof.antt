@@ -30,10 +30,10 @@ loop-again c =
     let l = c .before .before .loop in
     let s = c .before .before .before in
     let a = s .args in
-    let place : a .from + l .j ≡ a .from + ((a .to + l .j) - a .to) = omega arith in
+    let own : a .from + l .j ≡ a .from + ((a .to + l .j) - a .to) = omega arith in
     let fits : SFits w16 (getD (a .table .now) (a .from + l .j) (pos 0)) = fits-abs (omega (arith, s .pre .2 (a .from + l .j))) in (
       omega arith,
-      fill-set _ _ (l .inv .1) (omega arith) (toZ-ofZ fits ∙ ap (λ (k : ℕ). getD (a .table .now) k (pos 0)) place) (λ k h. run-more _ _ k),
+      fill-set _ _ (l .inv .1) (omega arith) (toZ-ofZ fits ∙ ap (λ (k : ℕ). getD (a .table .now) k (pos 0)) own) (λ k h. run-more _ _ k),
     )
 
 returns : tie.Need-returns Inv-loop μ-loop
@@ -48,13 +48,7 @@ copy-numbers-spec =
     Inv-loop
     μ-loop
     (λ c. (omega arith, fill-none (run-none _)))
-    (λ c. omega arith)
-    (λ c. omega arith)
-    (λ c. omega arith)
-    (λ c. omega arith)
-    (λ c. omega arith)
-    (λ c. omega arith)
-    (λ c. omega arith)
+    (λ c. omega arith) (λ c. omega arith) (λ c. omega arith) (λ c. omega arith) (λ c. omega arith) (λ c. omega arith) (λ c. omega arith)
     (λ c. omega arith)
     loop-again
     (λ c. search needs)
