@@ -20,7 +20,7 @@ use Rattle.alf_lists.specs.Regions.{between}
 use Rattle.alf_pieces.specs.Copies.{extent, pitch}
 use Rattle.alf_lists.proofs.Regions.{run-facts, row-of, row-room}
 use Rattle.alf_chroma.specs.Samples.{pieceSampleFrom}
-use Rattle.alf_chroma.specs.Pieces.{RowsWork, rowsAt, copyChromaAt}
+use Rattle.alf_chroma.specs.Pieces.{RowsWork, chromaRowsOf, copyChromaAt}
 
 -- what Table 46 can say
 abbrev Bounds : ChromaRows → Type 0
@@ -48,9 +48,9 @@ module _ {p : Picture} {g : Grid} {columns rows : Piece} {copy : List ℕ} {taps
 
   pub narrow : (width ≤ 4096) × (p .height / subHeight p ≤ 4096)
   narrow =
-      let W = B .work in (
-        rw (B .widthIs) (le-trans (div-le-self _ _) (width-bounds p (W .sizes) (W .ctbSize) .1)),
-        le-trans (div-le-self _ _) (height-bounds p (W .sizes) (W .ctbSize) .1),
+      let A = B .work .picture in (
+        rw (B .widthIs) (le-trans (div-le-self _ _) (width-bounds p (A .sizes) (A .ctbSize) .1)),
+        le-trans (div-le-self _ _) (height-bounds p (A .sizes) (A .ctbSize) .1),
       )
 
   pub last-column : columns .start + n ≡ columns .end
@@ -64,7 +64,7 @@ module _ {p : Picture} {g : Grid} {columns rows : Piece} {copy : List ℕ} {taps
     pub row-small : y ≤ 4096
     row-small = let D = B .work .down in omega (arith, D .high, D .inside, narrow .1)
 
-    module _ (r : ChromaRows) (table : r ≡ rowsAt (p .height) (g .ctb) ratio y) (from : ℕ) (at : from ≡ y * width + columns .start) where
+    module _ (r : ChromaRows) (table : r ≡ chromaRowsOf (p .height) (g .ctb) ratio y) (from : ℕ) (at : from ≡ y * width + columns .start) where
       -- what the row's function asks
       pub row-ready : (n ≤ 128) × (y - rows .start < 128) × (r .y1 ≤ r .y2) × (r .y2 ≤ 2) × (r .shift < 32) × (p .«bit_depth» ≤ 12)
           × (from + n ≤ output) × ((y - rows .start + 6) * (n + 6) ≤ length copy)
@@ -84,7 +84,7 @@ module _ {p : Picture} {g : Grid} {columns rows : Piece} {copy : List ℕ} {taps
             bounds .0,
             bounds .1,
             bounds .2,
-            depth-bounds p (W .depth) .1,
+            depth-bounds p (W .picture .depth) .1,
             omega (arith, at, in-plane, inPlane, W .outputLength, ap (λ (w : ℕ). w * height) (B .widthIs), mul-comm width height),
             omega (arith, inCopy, W .copyRoom),
             λ k h. W .samples k (omega (arith, inCopy)),

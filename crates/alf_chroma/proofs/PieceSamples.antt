@@ -35,7 +35,8 @@ use Rattle.alf_pieces.proofs.CopyReads.{own-ctb}
 use Rattle.alf_pieces.proofs.CopyHolds.{copy-holds}
 use Rattle.alf_pieces.proofs.CopySamples.{chroma-in}
 use Rattle.alf_taps.proofs.SpreadTaps.{taps-same}
-use Rattle.alf_chroma.specs.Samples.{copyPlus, copyMinus, copySample, pieceSample}
+use Rattle.alf_chroma.specs.Samples.{copyPlus, copyMinus, chromaCopySample, chromaStartsOf, pieceSample}
+use Rattle.alf_chroma.specs.declared.kernel.ChromaStarts.{ChromaStarts}
 use Rattle.alf_params.specs.Filters.{ChromaFilter}
 use Rattle.alf_chroma.specs.Pieces.{Spread, unlinedPlane, copyChromaAt}
 
@@ -111,19 +112,19 @@ module _ (i : Input) {p : Picture} {c : Ctb} {s : Sides} (ctb : CtbOf (i .layout
 
     -- with the rows of Table 46
     module _ (r : ChromaRows) (near : ChromaOffsets r) (order : r .y1 ≤ r .y2) (is : r ≡ chromaRowsAt i component x y) where
-      -- where row j of the copy begins
-      abbrev at : ℕ → ℕ
-      at j = j * pitch columns
+      -- the rows of the copy that its taps read
+      abbrev starts : ChromaStarts
+      starts = chromaStartsOf (pitch columns) row r
 
       -- how far they reach
       reach : r .y2 ≡ chromaRowsAt i component x y .y2
       reach = ap (λ (r : ChromaRows). r .y2) is
 
-      here : chromaRead i component x y (x, y) ≡ getD copy (at (row + 3) + column + 3) 0
+      here : chromaRead i component x y (x, y) ≡ getD copy (starts .here + column + 3) 0
       here = neighbour x y 3 (row + 3) (omega arith) (omega arith) (omega arith)
 
       plus-same : map (chromaRead i component x y) (chromaPlus x y r)
-          ≡ copyPlus copy (at (row + 3)) (at (row + 3 + r .y1)) (at (row + 3 + r .y2)) column
+          ≡ copyPlus copy starts column
       unfolding chromaPlus copyPlus
       plus-same =
           let e0 = neighbour x (y + r .y2) 3 (row + 3 + r .y2) (omega arith) (omega (arith, reach)) (omega (arith, reach)) in
@@ -135,7 +136,7 @@ module _ (i : Input) {p : Picture} {c : Ctb} {s : Sides} (ctb : CtbOf (i .layout
           λ t. e0 t ∷ e1 t ∷ e2 t ∷ e3 t ∷ e4 t ∷ e5 t ∷ []
 
       minus-same : map (chromaRead i component x y) (chromaMinus x y r)
-          ≡ copyMinus copy (at (row + 3 - r .y2)) (at (row + 3 - r .y1)) (at (row + 3)) column
+          ≡ copyMinus copy starts column
       unfolding chromaMinus copyMinus
       minus-same =
           let e0 = neighbour x (y - r .y2) 3 (row + 3 - r .y2) (omega arith) (omega (arith, reach)) (omega (arith, reach)) in
@@ -148,15 +149,13 @@ module _ (i : Input) {p : Picture} {c : Ctb} {s : Sides} (ctb : CtbOf (i .layout
 
       with-same : {filters taps : List ℤ} → ChromaFilter i c component filters → Spread filters 6 (extent columns) taps
           → pieceSample copy (pitch columns) r taps (i .layout .picture .«bit_depth») row column ≡ chromaWith i component x y r
-      unfolding pieceSample copySample chromaWith
+      unfolding pieceSample chromaCopySample chromaWith
       with-same {filters} {taps} F S =
           let inside : column < extent columns = omega arith in
-          let numbers = taps-same 6 (getD copy (at (row + 3) + column + 3) 0)
-          (copyPlus copy (at (row + 3)) (at (row + 3 + r .y1)) (at (row + 3 + r .y2)) column)
-          (copyMinus copy (at (row + 3 - r .y2)) (at (row + 3 - r .y1)) (at (row + 3)) column)
+          let numbers = taps-same 6 (getD copy (starts .here + column + 3) 0) (copyPlus copy starts column) (copyMinus copy starts column)
           (λ j h. S .coefficients j column h inside ∙ F .coefficients j h) (λ j h. S .clips j column h inside ∙ F .clips j h) in
           rw (own, here, plus-same, minus-same)
-          (ap (λ (z : ℤ). filtered (i .layout .picture .«bit_depth») (r .shift) (getD copy (at (row + 3) + column + 3) 0) z) numbers)
+          (ap (λ (z : ℤ). filtered (i .layout .picture .«bit_depth») (r .shift) (getD copy (starts .here + column + 3) 0) z) numbers)
 
   -- the sample at index k
   pub sample-same : {g : Grid} → GridOf p g → {filters taps : List ℤ} → ChromaFilter i c component filters

@@ -1,6 +1,5 @@
 -- What a piece is filtered from, and what its copy says of its samples. Assumes nothing.
 use mathlib.Core.Path.{_≡_}
-use mathlib.Core.Bool.{true}
 use mathlib.Core.List.{List, []}
 use Prim.Native.Nat.{ℕ, _+_, _-_, _*_, _/_, _%_, _≤_, _<_}
 use lib.IntN.{ℤ, pos}
@@ -11,8 +10,7 @@ use Rattle.alf_spec.specs.declared.Picture.{Picture}
 use Rattle.alf_spec.specs.Input.{Layout}
 use Rattle.alf_spec.specs.Geometry.{Plane, subWidth, subHeight, planeOf, lumaPosition, lineRule, bottomDistance, axisOf}
 use Rattle.alf_spec.specs.Chroma.{chromaRows}
-use Rattle.alf_spec.specs.Faults.{pictureSizeValid, ctbSizeValid, bitDepthValid}
-use Rattle.alf_math.specs.Grids.{GridOf}
+use Rattle.alf_math.specs.Grids.{AcceptedPicture}
 use Rattle.alf_math.specs.Integers.{CoeffRange, ClipRange}
 use Rattle.alf_pieces.specs.declared.pieces.Piece.{Piece}
 use Rattle.alf_pieces.specs.Pieces.{PieceIn}
@@ -32,10 +30,7 @@ pub record Spread (filters : List ℤ) (count n : ℕ) (taps : List ℤ) : Type 
 -- an accepted picture and its grid, the component's plane, a filter; room for the copy of a piece, for the filter's numbers, and for the
 -- output
 pub record ChromaWork (p : Picture) (g : Grid) (chroma : List ℕ) (filters : List ℤ) (copy : ℕ) (taps : List ℤ) (output : ℕ) : Type 0 where
-  pub grid : GridOf p g
-  pub sizes : pictureSizeValid p ≡ true
-  pub ctbSize : ctbSizeValid p ≡ true
-  pub depth : bitDepthValid p ≡ true
+  pub picture : AcceptedPicture p g
   pub chromaLength : length chroma ≡ (p .width / subWidth p) * (p .height / subHeight p)
   pub outputLength : output ≡ (p .width / subWidth p) * (p .height / subHeight p)
   pub samples : (k : ℕ) → getD chroma k 0 < 4096
@@ -45,12 +40,9 @@ pub record ChromaWork (p : Picture) (g : Grid) (chroma : List ℕ) (filters : Li
   pub copyRoom : area ≤ copy
   pub numbers : TapNumbers taps
 
--- a piece, its copy, and its filter's numbers
+-- an accepted picture and its grid, a piece with its copy, its filter's numbers, and room for the output
 pub record RowsWork (p : Picture) (g : Grid) (columns rows : Piece) (copy : List ℕ) (taps : List ℤ) (output : ℕ) : Type 0 where
-  pub grid : GridOf p g
-  pub sizes : pictureSizeValid p ≡ true
-  pub ctbSize : ctbSizeValid p ≡ true
-  pub depth : bitDepthValid p ≡ true
+  pub picture : AcceptedPicture p g
   pub across : PieceIn (p .width / subWidth p) columns
   pub down : PieceIn (p .height / subHeight p) rows
   pub copyRoom : copyLength columns rows ≤ length copy
@@ -67,8 +59,8 @@ unlinedPlane l = planeOf l (subWidth (l .picture)) (subHeight (l .picture)) 0
 -- ---- samples
 
 -- Table 46 at row y of a plane, where `ratio` rows of luma are one of the plane's
-abbrev pub rowsAt : ℕ → ℕ → ℕ → ℕ → ChromaRows
-rowsAt height ctb ratio y =
+abbrev pub chromaRowsOf : ℕ → ℕ → ℕ → ℕ → ChromaRows
+chromaRowsOf height ctb ratio y =
     let a = axisOf height ctb [] 0 ratio in
     chromaRows (lineRule a (lumaPosition a y)) (bottomDistance a y)
 
@@ -77,4 +69,4 @@ unfoldable pub copyChromaAt : Picture → ℕ → List ℕ → List ℤ → Piec
 copyChromaAt p ctb copy taps columns rows k =
     let x = k % (p .width / subWidth p) in
     let y = k / (p .width / subWidth p) in
-    pieceSample copy (pitch columns) (rowsAt (p .height) ctb (subHeight p) y) taps (p .«bit_depth») (y - rows .start) (x - columns .start)
+    pieceSample copy (pitch columns) (chromaRowsOf (p .height) ctb (subHeight p) y) taps (p .«bit_depth») (y - rows .start) (x - columns .start)

@@ -14,9 +14,10 @@ ghost use Rattle.alf_math.specs.Integers.{CoeffRange, ClipRange};
 ghost use Rattle.alf_lists.specs.Regions.{between, inRect};
 ghost use Rattle.alf_pieces.specs.Pieces.{PieceIn, PieceOf, CtbOf};
 ghost use Rattle.alf_taps.specs.Spread.{TapNumbers};
-ghost use Rattle.alf_chroma.specs.Samples.{pieceSampleFrom};
+ghost use Rattle.alf_chroma.specs.Samples.{chromaStartsOf, pieceSampleFrom};
 ghost use Rattle.alf_params.specs.Filters.{ChromaFilter};
 ghost use Rattle.alf_chroma.specs.Pieces.{Spread, RowsWork, ChromaWork, unlinedPlane, copyChromaAt};
+use crate::kernel::ChromaStarts;
 use crate::kernel::chroma_row;
 use crate::rows::rows_at;
 use alf_lists::fill;
@@ -49,6 +50,23 @@ fn spread(filters: &[i16], n: usize, taps: &mut [i16])
     }
 }
 
+// The rows of the copy that the taps of the piece's row t read, where a row of the copy has `pitch` samples.
+fn chroma_starts(pitch: usize, t: usize, r: ChromaRows) -> ChromaStarts
+    requires { ⌜ (pitch ≤ 134) × (t < 128) × (r .y1 ≤ 2) × (r .y2 ≤ 2) ⌝ }
+    ensures { λ result. ⌜ result ≡ chromaStartsOf pitch t r ⌝ }
+{
+    let row = t + 3;
+    let y1 = r.y1 as usize;
+    let y2 = r.y2 as usize;
+    ChromaStarts {
+        above2: (row - y2) * pitch,
+        above1: (row - y1) * pitch,
+        here: row * pitch,
+        below1: (row + y1) * pitch,
+        below2: (row + y2) * pitch,
+    }
+}
+
 // Row t of a piece of n columns.
 fn filter_row(
     copy: &[u16],
@@ -66,28 +84,12 @@ fn filter_row(
     ensures { λ _. ⌜ now (output .exit) ≡ painted (now (output .entry)) (between from n)
         (pieceSampleFrom (now (copy .entry)) (n + 6) offsets (now (taps .entry)) depth t from) ⌝ }
 {
-    let pitch = n + 6;
-    let row = t + 3;
-    let y1 = offsets.y1 as usize;
-    let y2 = offsets.y2 as usize;
-    chroma_row(
-        copy,
-        n,
-        (row - y2) * pitch,
-        (row - y1) * pitch,
-        row * pitch,
-        (row + y1) * pitch,
-        (row + y2) * pitch,
-        taps,
-        offsets.shift,
-        depth,
-        output,
-        from,
-    );
+    let s = chroma_starts(n + 6, t, offsets);
+    chroma_row(copy, n, s, taps, offsets.shift, depth, output, from);
 }
 
-// The place in a plane of so many columns of the sample at column x and row y.
-fn place(width: u32, y: u32, x: u32) -> usize
+// The index, in a plane of so many columns, of the sample at column x and row y.
+fn plane_index(width: u32, y: u32, x: u32) -> usize
     requires { ⌜ (width ≤ 4096) × (y ≤ 4096) ⌝ }
     ensures { λ r. ⌜ r ≡ y * width + x ⌝ }
 {
@@ -116,7 +118,7 @@ fn filter_rows(
     let mut y = rows.start;
     while y < rows.end {
         let offsets = rows_at(picture.height, grid.ctb, ratio, y);
-        let from = place(width, y, columns.start);
+        let from = plane_index(width, y, columns.start);
         filter_row(
             copy,
             n,

@@ -3,7 +3,7 @@
 ghost use mathlib.Core.Path.{_≡_};
 ghost use Prim.Native.Nat.{_-_, _*_, _/_, _%_, _≤_, _<_};
 ghost use Rattle.alf_spec.specs.Chroma.{chromaRows};
-ghost use Rattle.alf_chroma.specs.Pieces.{rowsAt};
+ghost use Rattle.alf_chroma.specs.Pieces.{chromaRowsOf};
 use alf_boundary::clips::line_rule;
 use alf_spec::ChromaRows;
 
@@ -40,7 +40,7 @@ fn bottom_distance(ctb: u32, ratio: u32, y: u32) -> u32
 // Table 46 at the plane's row y.
 pub(crate) fn rows_at(height: u32, ctb: u32, ratio: u32, y: u32) -> ChromaRows
     requires { ⌜ (4 ≤ ctb) × (ctb ≤ 128) × (0 < ratio) × (ratio ≤ 2) × (y ≤ 4096) ⌝ }
-    ensures { λ r. ⌜ r ≡ rowsAt height ctb ratio y ⌝ }
+    ensures { λ r. ⌜ r ≡ chromaRowsOf height ctb ratio y ⌝ }
 {
     chroma_rows(
         line_rule(height, ctb, y * ratio),

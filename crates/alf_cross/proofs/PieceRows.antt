@@ -19,9 +19,10 @@ use Rattle.alf_lists.specs.Regions.{between}
 use Rattle.alf_pieces.specs.Pieces.{BlockPiece}
 use Rattle.alf_pieces.specs.Copies.{extent, pitch}
 use Rattle.alf_lists.proofs.Regions.{run-facts, row-of}
-use Rattle.alf_cross.specs.Taps.{last, splitPlace, seven, RowReads, splitTaps, splitSum, rowSample, offsetSample}
-use Rattle.alf_cross.specs.Work.{SmallCopy, rowOffsets, splitRead, pieceSum, splitCrossAt}
-use Rattle.alf_cross.proofs.SplitColumns.{place-next}
+use Rattle.alf_cross.specs.Taps.{splitIndex, last, CrossReads, seven, splitTaps, splitSum, rowSample, crossStartsOf}
+use Rattle.alf_cross.specs.Taps.{offsetSample}
+use Rattle.alf_cross.specs.Pieces.{SmallCopy, crossRowsOf, splitRead, pieceSum, splitCrossAt}
+use Rattle.alf_cross.proofs.SplitColumns.{index-next}
 
 -- ---- a piece of whole blocks, in the samples of a plane with this ratio to luma
 
@@ -60,10 +61,9 @@ near line d = pick (line && (eqb d 5 || eqb d 4)) (line && (eqb d 6 || eqb d 3))
     pick false false = omega arith
 
 -- they lie in the copy, which has so many rows, where the sample is in row j
-pub row-reads : {split : List ℕ} {r : CrossRows} (j pitch rows end : ℕ) → Near r → SmallCopy split (rows * pitch)
-    → j + 2 < rows → end < pitch
-    → RowReads split pitch j r end
-row-reads {r = r} j pitch rows end near held inside within =
+pub row-reads : {split : List ℕ} {r : CrossRows} (j pitch step rows n : ℕ) → Near r → SmallCopy split (rows * pitch)
+    → j + 2 < rows → n + last (crossStartsOf pitch j r step) < pitch → CrossReads split (crossStartsOf pitch j r step) n
+row-reads {r = r} j pitch step rows n near held inside within =
     let up : (j - r .y1) * pitch ≤ (j + r .y2) * pitch = mul-le-mul-right pitch (omega arith) in
     let here : j * pitch ≤ (j + r .y2) * pitch = mul-le-mul-right pitch (omega arith) in
     let down : (j + r .y1) * pitch ≤ (j + r .y2) * pitch = mul-le-mul-right pitch (omega (arith, near .order)) in
@@ -76,12 +76,12 @@ row-reads {r = r} j pitch rows end near held inside within =
       small = λ k h. held .small k (omega arith);
     }
 
--- and the columns of a piece's samples in its rows
-pub columns-fit : {n : ℕ} {p : Piece} (ratio : ℕ) → Ratio ratio → BlockPiece n p
-    → extent p / ratio + last (splitPlace (pitch p) ratio 2) (splitPlace (pitch p) ratio 3) (splitPlace (pitch p) ratio 4) < pitch p
-unfolding splitPlace
-columns-fit _ whole B = omega arith
-columns-fit _ half B = omega arith
+-- the columns that are read for a piece's samples lie in their rows of the copy
+pub columns-fit : {n : ℕ} {p : Piece} (ratio j : ℕ) (r : CrossRows) → Ratio ratio → BlockPiece n p
+    → extent p / ratio + last (crossStartsOf (pitch p) j r ratio) < pitch p
+unfolding splitIndex
+columns-fit _ j r whole B = omega arith
+columns-fit _ j r half B = omega arith
 
 -- ---- what the taps read
 
@@ -89,12 +89,11 @@ columns-fit _ half B = omega arith
 module _ (split : List ℕ) (columns : Piece) (step : ℕ) (ratio : Ratio step) (r : CrossRows) (j x : ℕ) where
   -- the sample in column u of row q, which is column c of the first
   sample : (q c u : ℕ) → step * x + c ≡ u
-      → getD split (q * pitch columns + x + splitPlace (pitch columns) step c) 0 ≡ splitRead split columns step (u, q)
-  sample q c u e = rw (← e) (ap (λ (n : ℕ). getD split n 0) (omega (arith, place-next step ratio (pitch columns) x c)))
+      → getD split (q * pitch columns + x + splitIndex (pitch columns) step c) 0 ≡ splitRead split columns step (u, q)
+  sample q c u e = rw (← e) (ap (λ (n : ℕ). getD split n 0) (omega (arith, index-next step ratio (pitch columns) x c)))
 
   -- the rows that are read, and the columns, by where they begin
-  taps-same : splitTaps split ((j - r .y1) * pitch columns) (j * pitch columns) ((j + r .y1) * pitch columns) ((j + r .y2) * pitch columns)
-      (splitPlace (pitch columns) step 2) (splitPlace (pitch columns) step 3) (splitPlace (pitch columns) step 4) x
+  taps-same : splitTaps split (crossStartsOf (pitch columns) j r step) x
       ≡ map (splitRead split columns step) (crossTaps (step * x + 3) j r)
   unfolding splitTaps crossTaps
   taps-same =
@@ -108,8 +107,7 @@ module _ (split : List ℕ) (columns : Piece) (step : ℕ) (ratio : Ratio step) 
       ∷ []
 
   pub sum-same : (filters : List ℤ)
-      → splitSum split ((j - r .y1) * pitch columns) (j * pitch columns) ((j + r .y1) * pitch columns) ((j + r .y2) * pitch columns)
-      (splitPlace (pitch columns) step 2) (splitPlace (pitch columns) step 3) (splitPlace (pitch columns) step 4) (seven filters) x
+      → splitSum split (crossStartsOf (pitch columns) j r step) (seven filters) x
       ≡ pieceSum split columns step filters r (step * x + 3) j
   unfolding splitSum pieceSum crossSum sumBelowℤ
   sum-same filters = λ t. crossSum (sample j 3 _ refl t) (λ n. getD filters n (pos 0)) (taps-same t)
@@ -125,7 +123,7 @@ module _ (p : Picture) {columns rows : Piece} (across : BlockPiece (p .width) co
     lt-own (subHeight p) (rows .end) v high,
   )
 
-  -- its samples have a place in the plane
+  -- its samples lie in the plane
   pub row-fits : v * (p .width / subWidth p) + columns .start / subWidth p + extent columns / subWidth p
       ≤ p .width / subWidth p * (p .height / subHeight p)
   row-fits =
@@ -135,9 +133,9 @@ module _ (p : Picture) {columns rows : Piece} (across : BlockPiece (p .width) co
       mul-le-mul-right (p .width / subWidth p) (omega (arith, r .upto)) in
       omega (arith, c .last, c .upto)
 
-  -- and are those of the split copy
+  -- its samples are those of the split copy
   pub row-value : (ctb : ℕ) (filters : List ℤ) (split chroma : List ℕ) (r : CrossRows)
-      → r ≡ rowOffsets (p .height) ctb (v * subHeight p) → (k : ℕ)
+      → r ≡ crossRowsOf (p .height) ctb (v * subHeight p) → (k : ℕ)
       → let from = v * (p .width / subWidth p) + columns .start / subWidth p in
       between from (extent columns / subWidth p) k ≡ true
       → offsetSample split (pitch columns) (v * subHeight p - rows .start + 3) r (subWidth p) filters (p .«bit_depth») chroma from k

@@ -34,7 +34,7 @@ use Rattle.alf_pieces.proofs.PieceWalk.{walk-luma}
 use Rattle.alf_pieces.proofs.CopyHolds.{copy-holds}
 use Rattle.alf_pieces.proofs.CopySamples.{luma-in}
 use Rattle.alf_cross.specs.Taps.{Split}
-use Rattle.alf_cross.specs.Work.{CrossFilter, rowOffsets, splitRead, pieceSum, splitCrossAt}
+use Rattle.alf_cross.specs.Pieces.{CrossFilter, crossRowsOf, splitRead, pieceSum, splitCrossAt}
 use Rattle.alf_cross.proofs.PieceRows.{Near, near}
 
 -- ---- sums
@@ -48,7 +48,7 @@ cross-sum-same middle around f g e = sum-sameℤ 7 _ _ (λ j h. ap (λ (c : ℤ)
 -- ---- Table 47 in the luma plane
 
 offsets-same : (l : Layout) (y : ℕ)
-    → crossRows (lineRule (lumaPlane l .rows) y) (bottomDistance (lumaPlane l .rows) y) ≡ rowOffsets (l .picture .height)
+    → crossRows (lineRule (lumaPlane l .rows) y) (bottomDistance (lumaPlane l .rows) y) ≡ crossRowsOf (l .picture .height)
     (ctbSize (l .picture)) y
 unfolding planeOf lineRule bottomDistance
 offsets-same l y = simp (mul-one, div-one)
@@ -70,13 +70,13 @@ module _ {i : Input} {p : Picture} {c : Ctb} {s : Sides} (ctb : CtbOf (i .layout
         → (u ≡ columns .start + a - 3) × (v ≡ rows .start + b - 3) × (a < pitch columns) × (b < pitch rows)
         → read (i .layout) (lumaPlane (i .layout)) x y (i .luma) u v ≡ splitRead split columns (subWidth (i .layout .picture)) (a, b)
     unfolding planeOf
-    read-same u v a b near place =
+    read-same u v a b near stands =
         let wide : i .layout .picture .width / 1 ≡ p .width = rw (ctb .picture) (div-one (p .width)) in
         let split : Split copy split (pitch columns) (subWidth (i .layout .picture)) (pitch rows) = rw (ctb .picture) isSplit in
         copy-holds ctb 1 1 4 whole whole walk-luma across down (i .luma) copy copy0 wide (rw (← isLuma) at copies) room x y u v a b
         (luma-in (lumaPlane (i .layout) .columns) columns x u refl (omega arith) (omega arith) (near .0) (near .1))
         (luma-in (lumaPlane (i .layout) .rows) rows y v refl (omega arith) (omega arith) (near .2) (near .3))
-        (place .0) (place .1) (place .2) (place .3) ∙ sym (split .row b (place .3) .same a (place .2))
+        (stands .0) (stands .1) (stands .2) (stands .3) ∙ sym (split .row b (stands .3) .same a (stands .2))
 
     -- a neighbour
     abbrev reads : ℕ × ℕ → ℕ
@@ -154,4 +154,4 @@ module _ {i : Input} {p : Picture} {c : Ctb} {s : Sides} (ctb : CtbOf (i .layout
       let own = own-ctb x y m n column row (omega arith) (omega arith) (k % W) (k / W) refl refl in
       rw (grid .ctb, ← isChroma, ← (ctb .picture), div-add-mod' k W, own, offsets-same l y)
       (ap (corrected (q .«bit_depth») (getD (i .chroma) k 0))
-      (sums-same x y m n column row (omega arith) (omega arith) (rowOffsets (q .height) (ctbSize q) y) (near _ _)))
+      (sums-same x y m n column row (omega arith) (omega arith) (crossRowsOf (q .height) (ctbSize q) y) (near _ _)))

@@ -15,7 +15,8 @@ use Rattle.alf_spec.specs.Lists.{sumBelowℤ}
 use Rattle.alf_spec.specs.Arithmetic.{rounded}
 use Rattle.alf_spec.proofs.Lists.{Each}
 use Rattle.alf_math.proofs.Magnitude.{abs-add, abs-sub, fits-abs, returned}
-use Rattle.alf_cross.specs.Taps.{SmallTaps, Reads, seven}
+use Rattle.alf_cross.specs.Taps.{SmallTaps, last, CrossReads, seven}
+use Rattle.alf_cross.specs.declared.kernel.CrossStarts.{CrossStarts}
 
 -- ---- how large a tap is, and a sum of taps after the shift
 
@@ -76,11 +77,10 @@ each-small (c ∷ f) h (suc j) = each-small f (h .1) j
 pub seven-small : (f : List ℤ) → ((j : ℕ) → natAbs (getD f j (pos 0)) ≤ 128) → SmallTaps (seven f)
 seven-small f h = record { each = each-small (seven f) (h 0, (h 1, (h 2, (h 3, (h 4, (h 5, (h 6, tt))))))) }
 
--- ---- places in the split copy
+-- ---- what is read of the split copy
 
--- fewer places of a row are read
-pub reads-less : {split : List ℕ} {above here below far end less : ℕ} → Reads split above here below far end → less ≤ end
-    → Reads split above here below far less
+-- fewer samples of a row
+pub reads-less : {split : List ℕ} {s : CrossStarts} {n less : ℕ} → CrossReads split s n → less ≤ n → CrossReads split s less
 reads-less r h = record {
   aboveFirst = r .aboveFirst;
   hereFirst = r .hereFirst;
@@ -89,15 +89,14 @@ reads-less r h = record {
   small = λ k l. r .small k (omega arith);
 }
 
--- what a call asks: its row begins no later than the last, and its column and the samples' own lie before the end
-pub tap-ready : {split : List ℕ} {above here below far end : ℕ} {tap : ℕ → ℤ} {n : ℕ} {z f : ℤ} (own row at column : ℕ)
-    → Reads split above here below far end → Summed tap n z → n ≤ 6 → SFits w16 f → natAbs f ≤ 128
-    → row ≤ far → (at + own ≤ end) × (at + column ≤ end)
-    → (natAbs z ≤ 2 ^ 30) × (getD split (here + at + own) 0 < 4096) × (row + at + column < length split)
+-- what the call for tap n of sample `at` asks: its row begins no later than the last, and its column no later than the last
+pub tap-ready : {split : List ℕ} {s : CrossStarts} {at : ℕ} {tap : ℕ → ℤ} {n : ℕ} {z f : ℤ} (row column : ℕ)
+    → CrossReads split s at → Summed tap n z → n ≤ 6 → SFits w16 f → natAbs f ≤ 128 → row ≤ s .below2 → column ≤ last s
+    → (natAbs z ≤ 2 ^ 30) × (getD split (s .here + at + s .own) 0 < 4096) × (row + at + column < length split)
     × (getD split (row + at + column) 0 < 4096) × (natAbs (toZ w16 (ofZ w16 f)) ≤ 128)
-tap-ready {here = here} own row at column r sum few fits coefficient first within = (
+tap-ready {s = s} {at = at} row column r sum few fits coefficient first within = (
   omega (arith, sum .small),
-  r .small (here + at + own) (omega (arith, r .hereFirst)),
+  r .small (s .here + at + s .own) (omega (arith, r .hereFirst)),
   omega (arith, r .room),
   r .small (row + at + column) (omega arith),
   rw (toZ-ofZ fits) coefficient,

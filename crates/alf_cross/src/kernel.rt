@@ -1,5 +1,6 @@
-// A row of corrected samples. One loop with all taps in its body, 16 bits wherever memory is read or written, and neighbouring samples read
-// neighbouring places: so LLVM vectorises it.
+// (1533): sum = Σ f[ j ] * ( luma at tap j − luma at the sample's own position ), for the taps j = 0..6.
+// A row of samples corrected so. One loop with all taps in its body, 16 bits wherever memory is read or written, and the taps of
+// neighbouring samples stand side by side: so LLVM vectorises it.
 ghost use mathlib.Core.Path.{_≡_};
 ghost use mathlib.Core.List.{[], _∷_};
 ghost use Prim.Native.Nat.{ℕ, _+_, _*_, _^_, _≤_, _<_};
@@ -8,7 +9,7 @@ ghost use lib.IntN.{pos, natAbs, _+ℤ_, _-ℤ_, _*ℤ_};
 ghost use Rattle.alf_spec.specs.Lists.{painted};
 ghost use Rattle.alf_spec.specs.CrossComponent.{corrected as correctedBy};
 ghost use Rattle.alf_lists.specs.Regions.{between};
-ghost use Rattle.alf_cross.specs.Taps.{Reads, SmallTaps, last, splitSum, rowSample};
+ghost use Rattle.alf_cross.specs.Taps.{CrossReads, SmallTaps, splitSum, rowSample};
 use alf_math::clipping::clip16;
 use alf_math::clipping::half_levels;
 use alf_math::clipping::level16;
@@ -22,6 +23,18 @@ fn corrected(curr: u16, sum: i32, depth: u32) -> u16
     let half = half_levels(depth);
     let change = clip16(-(half as i16), (half - 1) as i16, rounded(sum, 7) as i16);
     level16(curr as i16 + change, depth)
+}
+
+// Where the taps of a row of samples read the split copy: the row y1 above theirs, their own, and those y1 and y2 below, by where each
+// begins; and in each row the columns left of the samples, their own and right of them, by where these begin in it.
+pub struct CrossStarts {
+    pub above1: usize,
+    pub here: usize,
+    pub below1: usize,
+    pub below2: usize,
+    pub left: usize,
+    pub own: usize,
+    pub right: usize,
 }
 
 // A sum with one tap more: coefficient f at the sample at row + at + column of the split copy. The difference of two samples fits 16 bits.
@@ -43,17 +56,10 @@ fn cross_tap(
     sum + f as i32 * (split[row + at + column] as i16 - middle as i16) as i32
 }
 
-// (1533): the taps of the sample at place `at` of its row. The rows begin at `above`, `here`, `below` and `far` of the split copy; in each,
-// the columns left of the samples, their own and right of them begin at `left`, `own` and `right`.
+// The seven taps of (1533), for sample `at` of its row.
 fn cross_sum(
     split: &[u16],
-    above: usize,
-    here: usize,
-    below: usize,
-    far: usize,
-    left: usize,
-    own: usize,
-    right: usize,
+    s: CrossStarts,
     at: usize,
     f0: i16,
     f1: i16,
@@ -63,31 +69,25 @@ fn cross_sum(
     f5: i16,
     f6: i16,
 ) -> i32
-    requires { ⌜ (Reads (now split) above here below far (at + last left own right))
-        × (SmallTaps (f0 ∷ f1 ∷ f2 ∷ f3 ∷ f4 ∷ f5 ∷ f6 ∷ [])) ⌝ }
-    ensures { λ r. ⌜ (r ≡ splitSum (now (split .entry)) above here below far left own right (f0 ∷ f1 ∷ f2 ∷ f3 ∷ f4 ∷ f5 ∷ f6 ∷ []) at)
-        × (natAbs r ≤ 7 * (128 * 4095)) ⌝ }
+    requires { ⌜ (CrossReads (now split) s at) × (SmallTaps (f0 ∷ f1 ∷ f2 ∷ f3 ∷ f4 ∷ f5 ∷ f6 ∷ [])) ⌝ }
+    ensures { λ r. ⌜ (r ≡ splitSum (now (split .entry)) s (f0 ∷ f1 ∷ f2 ∷ f3 ∷ f4 ∷ f5 ∷ f6 ∷ []) at) × (natAbs r ≤ 7 * (128 * 4095)) ⌝ }
 {
+    let here = s.here;
+    let own = s.own;
     let middle = split[here + at + own];
-    let s0 = cross_tap(0, split, middle, above, at, own, f0);
-    let s1 = cross_tap(s0, split, middle, here, at, left, f1);
-    let s2 = cross_tap(s1, split, middle, here, at, right, f2);
-    let s3 = cross_tap(s2, split, middle, below, at, left, f3);
-    let s4 = cross_tap(s3, split, middle, below, at, own, f4);
-    let s5 = cross_tap(s4, split, middle, below, at, right, f5);
-    cross_tap(s5, split, middle, far, at, own, f6)
+    let s0 = cross_tap(0, split, middle, s.above1, at, own, f0);
+    let s1 = cross_tap(s0, split, middle, here, at, s.left, f1);
+    let s2 = cross_tap(s1, split, middle, here, at, s.right, f2);
+    let s3 = cross_tap(s2, split, middle, s.below1, at, s.left, f3);
+    let s4 = cross_tap(s3, split, middle, s.below1, at, own, f4);
+    let s5 = cross_tap(s4, split, middle, s.below1, at, s.right, f5);
+    cross_tap(s5, split, middle, s.below2, at, own, f6)
 }
 
-// The sample `curr`, corrected by the taps at place `at`.
+// The chroma sample `curr`, which is sample `at` of its row, corrected by its taps.
 fn cross_at(
     split: &[u16],
-    above: usize,
-    here: usize,
-    below: usize,
-    far: usize,
-    left: usize,
-    own: usize,
-    right: usize,
+    s: CrossStarts,
     at: usize,
     f0: i16,
     f1: i16,
@@ -99,42 +99,17 @@ fn cross_at(
     curr: u16,
     depth: u32,
 ) -> u16
-    requires { ⌜ (Reads (now split) above here below far (at + last left own right)) × (SmallTaps (f0 ∷ f1 ∷ f2 ∷ f3 ∷ f4 ∷ f5 ∷ f6 ∷ []))
-        × (curr < 4096) × (1 ≤ depth) × (depth ≤ 12) ⌝ }
-    ensures { λ r. ⌜ r ≡ correctedBy depth curr (splitSum (now (split .entry)) above here below far left own right (f0 ∷ f1 ∷ f2 ∷ f3
-        ∷ f4 ∷ f5 ∷ f6 ∷ []) at) ⌝ }
+    requires { ⌜ (CrossReads (now split) s at) × (SmallTaps (f0 ∷ f1 ∷ f2 ∷ f3 ∷ f4 ∷ f5 ∷ f6 ∷ [])) × (curr < 4096) × (1 ≤ depth) × (depth ≤ 12) ⌝ }
+    ensures { λ r. ⌜ r ≡ correctedBy depth curr (splitSum (now (split .entry)) s (f0 ∷ f1 ∷ f2 ∷ f3 ∷ f4 ∷ f5 ∷ f6 ∷ []) at) ⌝ }
 {
-    let sum = cross_sum(
-        split,
-        above,
-        here,
-        below,
-        far,
-        left,
-        own,
-        right,
-        at,
-        f0,
-        f1,
-        f2,
-        f3,
-        f4,
-        f5,
-        f6,
-    );
+    let sum = cross_sum(split, s, at, f0, f1, f2, f3, f4, f5, f6);
     corrected(curr, sum, depth)
 }
 
 // n samples of a chroma plane, from index `from` on.
 pub(crate) fn cross_row(
     split: &[u16],
-    above: usize,
-    here: usize,
-    below: usize,
-    far: usize,
-    left: usize,
-    own: usize,
-    right: usize,
+    s: CrossStarts,
     f0: i16,
     f1: i16,
     f2: i16,
@@ -148,35 +123,15 @@ pub(crate) fn cross_row(
     n: usize,
     output: &mut [u16],
 )
-    requires { ⌜ (Reads (now split) above here below far (n + last left own right)) × (SmallTaps (f0 ∷ f1 ∷ f2 ∷ f3 ∷ f4 ∷ f5 ∷ f6 ∷ []))
-        × (1 ≤ depth) × (depth ≤ 12) × ((k : ℕ) → getD (now chroma) k 0 < 4096)
-        × (from + n ≤ length (now chroma)) × (from + n ≤ length (now output)) ⌝ }
+    requires { ⌜ (CrossReads (now split) s n) × (SmallTaps (f0 ∷ f1 ∷ f2 ∷ f3 ∷ f4 ∷ f5 ∷ f6 ∷ [])) × (1 ≤ depth) × (depth ≤ 12)
+        × ((k : ℕ) → getD (now chroma) k 0 < 4096) × (from + n ≤ length (now chroma)) × (from + n ≤ length (now output)) ⌝ }
     ensures { λ _. ⌜ now (output .exit) ≡ painted (now (output .entry)) (between from n)
-        (rowSample (now (split .entry)) above here below far left own right (f0 ∷ f1 ∷ f2 ∷ f3 ∷ f4 ∷ f5 ∷ f6 ∷ []) depth
-        (now (chroma .entry)) from) ⌝ }
+        (rowSample (now (split .entry)) s (f0 ∷ f1 ∷ f2 ∷ f3 ∷ f4 ∷ f5 ∷ f6 ∷ []) depth (now (chroma .entry)) from) ⌝ }
 {
     let mut x: usize = 0;
     while x < n {
-        output[from + x] = cross_at(
-            split,
-            above,
-            here,
-            below,
-            far,
-            left,
-            own,
-            right,
-            x,
-            f0,
-            f1,
-            f2,
-            f3,
-            f4,
-            f5,
-            f6,
-            chroma[from + x],
-            depth,
-        );
+        let curr = chroma[from + x];
+        output[from + x] = cross_at(split, s, x, f0, f1, f2, f3, f4, f5, f6, curr, depth);
         x += 1;
     }
 }

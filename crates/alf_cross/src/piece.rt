@@ -12,9 +12,9 @@ ghost use Rattle.alf_spec.specs.declared.Ctb.{Ctb};
 ghost use Rattle.alf_lists.specs.Regions.{between, inRect};
 ghost use Rattle.alf_pieces.specs.Pieces.{PieceOf, BlockPiece, CtbOf};
 ghost use Rattle.alf_pieces.specs.Copies.{extent as extentOf, copyLength};
-ghost use Rattle.alf_cross.specs.Work.{ChromaWork, CrossWork, SmallCopy, CrossFilter, splitCrossAt};
+ghost use Rattle.alf_cross.specs.Pieces.{CrossPlanes, CrossWork, SmallCopy, CrossFilter, splitCrossAt};
 use crate::rows::offset_row;
-use crate::rows::row_offsets;
+use crate::rows::rows_at;
 use crate::split::split_rows;
 use alf_math::grid::sub_height;
 use alf_math::grid::sub_width;
@@ -26,7 +26,7 @@ use alf_spec::Picture;
 use alf_spec::Sides;
 
 // The index, in row v of the chroma plane, of the sample at luma column x.
-fn chroma_place(width: u32, step: u32, v: u32, x: u32) -> usize
+fn chroma_index(width: u32, step: u32, v: u32, x: u32) -> usize
     requires { ⌜ (width ≤ 4096) × (0 < step) × (v ≤ 4096) × (x ≤ 4096) ⌝ }
     ensures { λ r. ⌜ r ≡ v * (width / step) + x / step ⌝ }
 {
@@ -45,7 +45,7 @@ fn piece_row(
     v: u32,
     output: &mut [u16],
 )
-    requires { ⌜ (ChromaWork picture grid (now chroma) (now filters) (length (now output)))
+    requires { ⌜ (CrossPlanes picture grid (now chroma) (now filters) (length (now output)))
         × (BlockPiece (picture .width) columns) × (BlockPiece (picture .height) rows) × (SmallCopy (now split) (copyLength columns rows))
         × (rows .start / subHeight picture ≤ v) × (v < rows .end / subHeight picture) ⌝ }
     ensures { λ _. ⌜ now (output .exit) ≡ painted (now (output .entry))
@@ -59,12 +59,12 @@ fn piece_row(
         split,
         width + 6,
         (y - rows.start) as usize + 3,
-        row_offsets(picture.height, grid.ctb, y),
+        rows_at(picture.height, grid.ctb, y),
         step as usize,
         filters,
         picture.bit_depth as u32,
         chroma,
-        chroma_place(picture.width, step, v, columns.start),
+        chroma_index(picture.width, step, v, columns.start),
         width / step as usize,
         output,
     );
@@ -81,7 +81,7 @@ fn piece_rows(
     filters: &[i16],
     output: &mut [u16],
 )
-    requires { ⌜ (ChromaWork picture grid (now chroma) (now filters) (length (now output)))
+    requires { ⌜ (CrossPlanes picture grid (now chroma) (now filters) (length (now output)))
         × (BlockPiece (picture .width) columns) × (BlockPiece (picture .height) rows)
         × (SmallCopy (now split) (copyLength columns rows)) ⌝ }
     ensures { λ _. ⌜ now (output .exit) ≡ painted (now (output .entry))

@@ -1,4 +1,4 @@
-// The rows that the taps of a sample read.
+// The rows and columns that the taps of a sample read.
 ghost use mathlib.Core.Path.{_≡_};
 ghost use Prim.Native.Nat.{ℕ, _+_, _*_, _≤_, _<_};
 ghost use lib.IntN.{pos, natAbs};
@@ -6,10 +6,11 @@ ghost use lib.ListN.{length, getD};
 ghost use Rattle.alf_spec.specs.Lists.{painted};
 ghost use Rattle.alf_spec.specs.CrossComponent.{crossRows};
 ghost use Rattle.alf_lists.specs.Regions.{between};
-ghost use Rattle.alf_cross.specs.Taps.{last, splitPlace, RowReads, offsetSample};
-ghost use Rattle.alf_cross.specs.Work.{rowOffsets};
+ghost use Rattle.alf_cross.specs.Taps.{CrossReads, crossStartsOf, offsetSample};
+ghost use Rattle.alf_cross.specs.Pieces.{crossRowsOf};
+use crate::kernel::CrossStarts;
 use crate::kernel::cross_row;
-use crate::split::column_place;
+use crate::split::column_index;
 use alf_boundary::clips::line_rule;
 use alf_spec::CrossRows;
 
@@ -28,20 +29,30 @@ fn cross_rows(line: bool, distance: u32) -> CrossRows
     }
 }
 
-// Those of the samples at luma row y.
-pub(crate) fn row_offsets(height: u32, ctb: u32, y: u32) -> CrossRows
+// Table 47 at luma row y.
+pub(crate) fn rows_at(height: u32, ctb: u32, y: u32) -> CrossRows
     requires { ⌜ (4 ≤ ctb) × (ctb ≤ 128) × (y ≤ 65535) ⌝ }
-    ensures { λ r. ⌜ r ≡ rowOffsets height ctb y ⌝ }
+    ensures { λ r. ⌜ r ≡ crossRowsOf height ctb y ⌝ }
 {
     cross_rows(line_rule(height, ctb, y), ctb - y % ctb)
 }
 
-// Where row j of the copy begins.
-fn row_place(pitch: usize, j: usize) -> usize
-    requires { ⌜ (pitch ≤ 134) × (j ≤ 134) ⌝ }
-    ensures { λ r. ⌜ r ≡ j * pitch ⌝ }
+// What the taps of samples read whose luma row is row j of the copy, where a row of the copy has `pitch` samples.
+fn cross_starts(pitch: usize, j: usize, r: CrossRows, step: usize) -> CrossStarts
+    requires { ⌜ (pitch ≤ 134) × (r .y1 ≤ j) × (j + r .y1 ≤ 134) × (j + r .y2 ≤ 134) ⌝ }
+    ensures { λ result. ⌜ result ≡ crossStartsOf pitch j r step ⌝ }
 {
-    j * pitch
+    let y1 = r.y1 as usize;
+    let y2 = r.y2 as usize;
+    CrossStarts {
+        above1: (j - y1) * pitch,
+        here: j * pitch,
+        below1: (j + y1) * pitch,
+        below2: (j + y2) * pitch,
+        left: column_index(pitch, step, 2),
+        own: column_index(pitch, step, 3),
+        right: column_index(pitch, step, 4),
+    }
 }
 
 // n samples of a chroma plane, from index `from` on, whose luma row is row j of the copy.
@@ -58,25 +69,16 @@ pub(crate) fn offset_row(
     n: usize,
     output: &mut [u16],
 )
-    requires { ⌜ (RowReads (now split) pitch j offsets (n + last (splitPlace pitch step 2) (splitPlace pitch step 3)
-        (splitPlace pitch step 4))) × (pitch ≤ 134)
+    requires { ⌜ (CrossReads (now split) (crossStartsOf pitch j offsets step) n) × (pitch ≤ 134)
         × (offsets .y1 ≤ j) × (offsets .y1 ≤ offsets .y2) × (j + offsets .y2 ≤ 134)
         × (7 ≤ length (now filters)) × ((i : ℕ) → natAbs (getD (now filters) i (pos 0)) ≤ 128) × (1 ≤ depth) × (depth ≤ 12)
         × ((k : ℕ) → getD (now chroma) k 0 < 4096) × (from + n ≤ length (now chroma)) × (from + n ≤ length (now output)) ⌝ }
     ensures { λ _. ⌜ now (output .exit) ≡ painted (now (output .entry)) (between from n)
         (offsetSample (now (split .entry)) pitch j offsets step (now (filters .entry)) depth (now (chroma .entry)) from) ⌝ }
 {
-    let y1 = offsets.y1 as usize;
-    let y2 = offsets.y2 as usize;
     cross_row(
         split,
-        row_place(pitch, j - y1),
-        row_place(pitch, j),
-        row_place(pitch, j + y1),
-        row_place(pitch, j + y2),
-        column_place(pitch, step, 2),
-        column_place(pitch, step, 3),
-        column_place(pitch, step, 4),
+        cross_starts(pitch, j, offsets, step),
         filters[0],
         filters[1],
         filters[2],

@@ -1,14 +1,14 @@
-// The copy of a piece with its columns split, for planes of half the width: the taps of neighbouring chroma samples then read neighbouring
-// places.
+// The copy of a piece with its columns split, for planes of half the width: what a tap of neighbouring chroma samples reads then stands side
+// by side.
 ghost use mathlib.Core.Path.{_≡_};
 ghost use Prim.Native.Nat.{ℕ, _+_, _*_, _%_, _≤_, _<_};
 ghost use lib.ListN.{length, getD};
-ghost use Rattle.alf_cross.specs.Taps.{splitPlace, SplitRow, Split};
+ghost use Rattle.alf_cross.specs.Taps.{splitIndex, SplitRow, Split};
 
 // Where column c of the copy stands in its row of the split copy.
-pub(crate) fn column_place(pitch: usize, step: usize, c: usize) -> usize
+pub(crate) fn column_index(pitch: usize, step: usize, c: usize) -> usize
     requires { ⌜ (pitch ≤ 134) × (c ≤ 134) ⌝ }
-    ensures { λ r. ⌜ r ≡ splitPlace pitch step c ⌝ }
+    ensures { λ r. ⌜ r ≡ splitIndex pitch step c ⌝ }
 {
     if step == 2 {
         c % 2 * (pitch / 2) + c / 2

@@ -25,7 +25,7 @@ use Rattle.alf_pieces.proofs.ScaledPieces.{scaled-piece}
 use Rattle.alf_params.specs.Filters.{LumaFilters, ChromaFilter}
 use Rattle.alf_luma.specs.Samples.{LumaWork}
 use Rattle.alf_chroma.specs.Pieces.{ChromaWork, unlinedPlane}
-use Rattle.alf_cross.specs.Work.{CrossFilter, CrossWork}
+use Rattle.alf_cross.specs.Pieces.{CrossFilter, CrossWork}
 use Rattle.alf_ctb.specs.declared.Filter.{Filter}
 use Rattle.alf_ctb.specs.declared.Filter.the-variants.{Luma, Chroma, CrossComponent}
 use Rattle.alf_ctb.specs.Work.{Given, Rooms, Numbers, PieceFiltered}
@@ -59,10 +59,7 @@ module _ {f : Filter} {p : Picture} {g : Grid} {luma chroma places : List ℕ} (
       let rooms = subst (λ f. Rooms f p copy differences taps output) e isRooms in
       let numbers = subst (λ f. Numbers f filters) e isNumbers in
       record {
-        grid = given .grid;
-        sizes = given .sizes;
-        ctbSize = given .ctbSize;
-        depth = given .depth;
+        picture = record { grid = given .grid; sizes = given .sizes; ctbSize = given .ctbSize; depth = given .depth };
         chromaLength = given .chromaLength refl;
         outputLength = rooms .outputLength;
         samples = given .chroma refl;
@@ -79,11 +76,8 @@ module _ {f : Filter} {p : Picture} {g : Grid} {luma chroma places : List ℕ} (
       let rooms = subst (λ f. Rooms f p copy differences taps output) e isRooms in
       let numbers = subst (λ f. Numbers f filters) e isNumbers in
       record {
-        work = record {
-          grid = given .grid;
-          sizes = given .sizes;
-          ctbSize = given .ctbSize;
-          depth = given .depth;
+        planes = record {
+          picture = record { grid = given .grid; sizes = given .sizes; ctbSize = given .ctbSize; depth = given .depth };
           chromaLength = given .chromaLength refl;
           outputLength = rooms .outputLength;
           chromaSamples = given .chroma refl;

@@ -12,7 +12,7 @@ use Rattle.alf_spec.specs.Chroma.{chromaSample}
 use Rattle.alf_spec.specs.CrossComponent.{crossSample}
 use Rattle.alf_spec.specs.Process.{lumaOn, chromaOn, crossOn}
 use Rattle.alf_params.specs.Filters.{LumaFilters, ChromaFilter}
-use Rattle.alf_cross.specs.Work.{CrossFilter}
+use Rattle.alf_cross.specs.Pieces.{CrossFilter}
 use Rattle.alf_ctb.specs.declared.Filter.{Filter}
 use Rattle.alf_ctb.specs.declared.Filter.the-variants.{Luma, Chroma, CrossComponent}
 

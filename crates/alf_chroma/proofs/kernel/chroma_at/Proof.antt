@@ -12,7 +12,7 @@ use Rattle.alf_spec.specs.Arithmetic.{tapSum}
 use Rattle.alf_math.proofs.Magnitude.{returned}
 use Rattle.alf_taps.specs.Spread.{spreadCoeff, spreadClip}
 use Rattle.alf_taps.proofs.SpreadTaps.{spread-sum}
-use Rattle.alf_chroma.specs.Samples.{copyPlus, copyMinus, copySample}
+use Rattle.alf_chroma.specs.Samples.{copyPlus, copyMinus, chromaCopySample}
 use Rattle.alf_chroma.proofs.kernel.chroma_at.Statement.{statement}
 use Rattle.alf_chroma.proofs.kernel.chroma_at.Tie as tie
 use Rattle.alf_chroma.proofs.kernel.chroma_at.Reads as reads
@@ -21,10 +21,10 @@ use Rattle.alf_chroma.proofs.kernel.chroma_at.Lts as lts
 abbrev sum : tie.Start → ℤ
 sum s =
     let a = s .args in
-    tapSum 6 (getD (now (a .copy)) (a .z + a .x + 3) 0) (spreadCoeff (now (a .taps)) (a .x)) (spreadClip (now (a .taps)) (a .x))
-    (copyPlus (now (a .copy)) (a .z) (a .p1) (a .p2) (a .x)) (copyMinus (now (a .copy)) (a .m2) (a .m1) (a .z) (a .x))
+    tapSum 6 (getD (now (a .copy)) (a .s .here + a .x + 3) 0) (spreadCoeff (now (a .taps)) (a .x)) (spreadClip (now (a .taps)) (a .x))
+    (copyPlus (now (a .copy)) (a .s) (a .x)) (copyMinus (now (a .copy)) (a .s) (a .x))
 
-level : (s : tie.Start) → getD (now (s .args .copy)) (s .args .z + s .args .x + 3) 0 < 4096
+level : (s : tie.Start) → getD (now (s .args .copy)) (s .args .s .here + s .args .x + 3) 0 < 4096
 level s = s .pre .0 .samples _ (omega (arith, s .pre .0 .rise))
 
 small : (s : tie.Start) → natAbs (sum s) ≤ 6 * 2 ^ 20
@@ -40,7 +40,7 @@ filtered-requires : tie.Need-filtered-requires
 filtered-requires c κs = let s = c .before .before .before in rw (summed c) (level s, omega (arith, small s), s .pre .3, s .pre .4)
 
 returns : tie.Need-returns
-unfolding copySample
+unfolding chromaCopySample
 returns c = simp (summed (c .before)) at (c .filtered .ensures)
 
 pub chroma-at-spec : {M : Type 1} → statement M

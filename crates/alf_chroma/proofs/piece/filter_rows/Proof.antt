@@ -26,14 +26,15 @@ abbrev μ-loop : tie.MeasureT-loop
 
 loop-holds : tie.Need-loop-holds Inv-loop μ-loop
 loop-holds c =
-    let s = c .before .before .before .before .before .before .before in
-    let W = s .pre in (
+    let wide = c .before .before in
+    let long = wide .before .before in
+    let W = long .before .before .before .pre in (
       omega arith,
       omega (arith, W .down .filled),
       record {
         work = W;
-        nIs = c .before .before .before .before .extent .ensures;
-        widthIs = rw (c .before .before .sub-width .ensures .0);
+        nIs = long .extent .ensures;
+        widthIs = rw (wide .sub-width .ensures .0);
         ratioIs = c .sub-height .ensures .0;
       },
       paint-none (λ k. rect-none _ _ _ _ _ k (inr (omega arith))),
@@ -42,33 +43,36 @@ loop-holds c =
 rows-at-requires : tie.Need-rows-at-requires Inv-loop μ-loop
 rows-at-requires c κs =
     let l = c .before .before .loop in
-    let G = l .inv .2 .work .grid in
+    let G = l .inv .2 .work .picture .grid in
     let r = row-ratio (l .inv .2) in
     (omega (arith, G .ctbLow), G .ctbHigh, r .0, r .1, row-small (l .inv .2) _ (l .inv .0) (c .if1 .taken))
 
-place-requires : tie.Need-place-requires Inv-loop μ-loop
-place-requires c κs =
+plane-index-requires : tie.Need-plane-index-requires Inv-loop μ-loop
+plane-index-requires c κs =
     let l = c .before .before .before .loop in
     (narrow (l .inv .2) .0, row-small (l .inv .2) _ (l .inv .0) (c .before .if1 .taken))
 
 filter-row-requires : tie.Need-filter-row-requires Inv-loop μ-loop
 filter-row-requires c κs =
-    let turn = c .before .before .before .before in
+    let indexed = c .before .before in
+    let turn = indexed .before .before in
     let l = turn .before .before .loop in
-    let table = c .before .before .before .rows-at .ensures in
-    let r = row-ready (l .inv .2) (l .y) (l .inv .0) (turn .if1 .taken) _ table _ (c .before .before .place .ensures) in
+    let table = indexed .before .rows-at .ensures in
+    let r = row-ready (l .inv .2) (l .y) (l .inv .0) (turn .if1 .taken) _ table _ (indexed .plane-index .ensures) in
     (r .0, r .1, r .2, r .3, r .4, r .5, l .inv .2 .work .numbers, omega (arith, r .6, l .inv .3 .len), r .7, r .8)
 
 loop-again : tie.Need-loop-again Inv-loop μ-loop
 loop-again c =
-    let turn = c .before .before .before .before .before .before .before in
+    let filtered = c .before .before in
+    let indexed = filtered .before .before .before in
+    let turn = indexed .before .before in
     let l = turn .before .before .loop in
-    let table = c .before .before .before .before .before .before .rows-at .ensures in
-    let at = c .before .before .before .before .before .place .ensures in (
+    let table = indexed .before .rows-at .ensures in
+    let at = indexed .plane-index .ensures in (
       omega (arith, l .inv .0),
       omega (arith, turn .if1 .taken),
       l .inv .2,
-      paint-call _ _ (l .inv .3) (c .before .before .filter-row .ensures)
+      paint-call _ _ (l .inv .3) (filtered .filter-row .ensures)
           (λ k h t. row-sample (l .inv .2) (l .y) (l .inv .0) (turn .if1 .taken) _ table _ at k t)
           (λ k h. rw at (rect-more _ _ _ _ _ (in-plane (l .inv .2)) (l .inv .0) k)),
     )
@@ -85,18 +89,13 @@ filter-rows-spec =
     Inv-loop
     μ-loop
     (λ c κs. omega (arith, c .before .before .pre .across .filled))
-    (λ c. search needs)
-    (λ c κs. search needs)
-    (λ c. search needs)
-    (λ c κs. search needs)
+    (λ c. search needs) (λ c κs. search needs) (λ c. search needs) (λ c κs. search needs)
     loop-holds
     rows-at-requires
-    place-requires
-    (λ c. search needs)
-    (λ c. search needs)
+    plane-index-requires
+    (λ c. search needs) (λ c. search needs)
     filter-row-requires
-    (λ c. search needs)
-    (λ c. search needs)
+    (λ c. search needs) (λ c. search needs)
     loop-again
     (λ c. search needs)
     returns)

@@ -3,6 +3,7 @@ use mathlib.Core.Path.{_≡_, refl, _∙_}
 use Prim.Native.Nat.{_-_, _≤_}
 use native.Mathlib.Nat.{le-antisymm}
 use native.Mathlib.Omega.{arith}
+use borrow.Author.Needs.{needs}
 use lib.IntN.{ℤ, pos}
 use lib.ListN.{length, getD}
 use mir.Facts.{toZ-ofZ}
@@ -36,19 +37,22 @@ fill-requires c κs = let l = c .before .before .before .loop in omega (arith, l
 
 fill-requires-2 : tie.Need-fill-requires-2 Inv-loop μ-loop
 fill-requires-2 c κs =
-    let l = c .before .before .before .before .before .before .before .loop in
-    omega (arith, l .inv .3 .room, c .before .before .before .fill .ensures .len)
+    let coefficients = c .before .before .before in
+    let turn = coefficients .before .before .before in
+    omega (arith, turn .before .loop .inv .3 .room, coefficients .fill .ensures .len)
 
 loop-again : tie.Need-loop-again Inv-loop μ-loop
 loop-again c =
-    let turn = c .before .before .before .before .before .before .before .before in
+    let filled = c .before in
+    let coefficients : tie.After-fill Inv-loop μ-loop = search needs in
+    let turn = coefficients .before .before .before in
     let l = turn .before .loop in
     let s = turn .before .before in
     let v = s .pre .1 (l .j) (turn .loop-test .taken) in
     let w = s .pre .2 (l .j) (turn .loop-test .taken) in
     let filters = s .args .filters .now in
-    let first = simp (toZ-ofZ, coeff-fits (getD filters (l .j) (pos 0)) v) at (c .before .before .before .before .before .fill .ensures) in
-    let second = simp (toZ-ofZ, clip-fits w) at (c .before .fill2 .ensures) in
+    let first = simp (toZ-ofZ, coeff-fits (getD filters (l .j) (pos 0)) v) at (coefficients .fill .ensures) in
+    let second = simp (toZ-ofZ, clip-fits w) at (filled .fill2 .ensures) in
     let more = numbers-more filters (l .j) (l .inv .3) (s .pre .3) (turn .loop-test .taken) first second in
     let on = spread-more filters (l .j) (l .inv .3) (s .pre .3) (turn .loop-test .taken) first second in
     (omega (arith, turn .loop-test .taken), second .len ∙ first .len ∙ l .inv .1, on (l .inv .2), more v w)
@@ -60,18 +64,11 @@ spread-spec =
     Inv-loop
     μ-loop
     (λ c. (omega arith, refl, spread-none, c .pre .4))
-    (λ c. omega arith)
-    (λ c. omega arith)
-    (λ c. omega arith)
+    (λ c. omega arith) (λ c. omega arith) (λ c. omega arith)
     fill-requires
-    (λ c. omega arith)
-    (λ c. omega arith)
-    (λ c. omega arith)
-    (λ c. omega arith)
-    (λ c. omega arith)
+    (λ c. omega arith) (λ c. omega arith) (λ c. omega arith) (λ c. omega arith) (λ c. omega arith)
     fill-requires-2
-    (λ c. omega arith)
-    (λ c. omega arith)
+    (λ c. omega arith) (λ c. omega arith)
     loop-again
     (λ c. c .before .loop .inv .1)
     (λ c. let l = c .before .loop in (rw (le-antisymm (l .inv .0) (c .loop-test .left)) at (l .inv .2), l .inv .3)))

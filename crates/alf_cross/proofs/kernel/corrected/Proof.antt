@@ -55,8 +55,9 @@ moved-fits s =
 returns : tie.Need-returns
 unfolding corrected
 returns c =
-    let s = c .before .before .before .before in
-    simp (change-is (c .before), curr-is s, words, moved-fits s) at (c .level16 .ensures)
+    let clipped = c .before in
+    let start = clipped .before .before .before in
+    simp (change-is clipped, curr-is start, words, moved-fits start) at (c .level16 .ensures)
 
 pub corrected-spec : {M : Type 1} → statement M
 corrected-spec =
@@ -65,8 +66,7 @@ corrected-spec =
     (λ c κs. search needs)
     (λ c. search needs)
     (λ c. rw (half-is c) (low-fits c))
-    (λ c. search needs)
-    (λ c. search needs)
+    (λ c. search needs) (λ c. search needs)
     (λ c κs. let s = c .before in simp (words, s .fits .sum) (omega (arith, s .pre .1)))
     (λ c. rw (rounded-is c) (rounded-fits (c .before .before)))
     (λ c κs. search needs)

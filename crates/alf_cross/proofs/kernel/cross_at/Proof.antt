@@ -11,8 +11,7 @@ use Rattle.alf_cross.proofs.kernel.cross_at.Statement.{statement}
 use Rattle.alf_cross.proofs.kernel.cross_at.Tie as tie
 
 sum-is : (c : tie.After-cross-sum) → let a = c .before .before .args in toZ w32 (ofZ w32 (c .cross-sum .result))
-    ≡ splitSum (a .split .now) (a .above) (a .here) (a .below) (a .far) (a .left) (a .own) (a .right) (a .f0 ∷ a .f1 ∷ a .f2 ∷ a .f3
-    ∷ a .f4 ∷ a .f5 ∷ a .f6 ∷ []) (a .at)
+    ≡ splitSum (a .split .now) (a .s) (a .f0 ∷ a .f1 ∷ a .f2 ∷ a .f3 ∷ a .f4 ∷ a .f5 ∷ a .f6 ∷ []) (a .at)
 sum-is c = returned w32 (c .cross-sum .ok) (rw (taps-back (c .before .before .pre .1)) at (c .cross-sum .ensures .0))
 
 pub cross-at-spec : {M : Type 1} → statement M

@@ -21,18 +21,23 @@ abbrev signed : List ℕ → List ℤ
 signed = map (toZ w16)
 
 abbrev Inv-loop : tie.InvT-loop
-Inv-loop split above here below far left own right f0 f1 f2 f3 f4 f5 f6 depth chroma from n output₀ x₀ output x =
+Inv-loop split s f0 f1 f2 f3 f4 f5 f6 depth chroma from n output₀ x₀ output x =
     (x ≤ n) × Paint output₀ (between from x)
-    (rowSample split above here below far left own right (signed (f0 ∷ f1 ∷ f2 ∷ f3 ∷ f4 ∷ f5 ∷ f6 ∷ [])) depth chroma from) output
+    (rowSample split s (signed (f0 ∷ f1 ∷ f2 ∷ f3 ∷ f4 ∷ f5 ∷ f6 ∷ [])) depth chroma from) output
 
 abbrev μ-loop : tie.MeasureT-loop
-μ-loop split above here below far left own right f0 f1 f2 f3 f4 f5 f6 depth chroma from n output₀ x₀ output x = n - x
+μ-loop split s f0 f1 f2 f3 f4 f5 f6 depth chroma from n output₀ x₀ output x = n - x
+
+-- what the function is given, seen from the loop
+abbrev start : tie.At-loop Inv-loop μ-loop → tie.Start Inv-loop μ-loop
+start looped = let entered = looped .before .before in entered .before .before
 
 loop-again : tie.Need-loop-again Inv-loop μ-loop
 unfolding rowSample
 loop-again c =
-    let l = c .before .before .before .loop in
-    let from = c .before .before .before .before .before .before .before .args .from in
+    let looped = c .before .before .before in
+    let l = looped .loop in
+    let from = start looped .args .from in
     let own : from + l .x - from ≡ l .x = omega arith in (
       omega arith,
       paint-set _ _ (l .inv .1) (omega (arith, l .inv .1 .len)) (rw own (c .cross-at .ensures)) (λ k h. run-more _ _ k),
@@ -49,7 +54,8 @@ cross-row-spec =
     (λ c. omega arith)
     (λ c. omega arith)
     (λ c κs.
-    let s = c .before .before .before .before .before .before in (
+    let looped = c .before .before in
+    let s = start looped in (
       reads-less (s .pre .0) (omega arith),
       rw (taps-back (s .pre .1)) (s .pre .1),
       s .pre .4 _,
@@ -64,6 +70,6 @@ cross-row-spec =
     loop-again
     (λ c. search needs)
     (λ c.
-    let s = c .before .before .before .before .before in
+    let s = start (c .before) in
     let l = c .before .loop in
     rw (le-antisymm (l .inv .0) (c .loop-test .left), taps-back (s .pre .1)) at (paint-is (l .inv .1))))

@@ -17,14 +17,14 @@ use Rattle.alf_cross.proofs.piece.filter_piece.Tie as tie
 
 copy-piece-requires : tie.Need-copy-piece-requires
 copy-piece-requires c κs =
-    let s = c .before .before .before .before .before .before .before in
+    let s : tie.Start = search needs in
     let across = s .pre .1 .numbers in
     let down = s .pre .2 .numbers in
     (across, down .low, down .filled, down .high, rows-fit _ down (s .pre .0 .lumaLength), copy-fits across down (s .pre .0 .copyRoom))
 
--- what the function is given
+-- what the function is given, seen from the copy
 abbrev start : tie.After-copy-piece → tie.Start
-start c = c .before .before .before .before .before .before .before .before
+start copied = let entered = copied .before .before in let borrowed = entered .before .before .before in borrowed .before .before .before
 
 -- the copy has room, and the split copy
 room : (s : tie.Start) → let a = s .args in
@@ -56,7 +56,7 @@ piece-rows-requires c κs =
     let e2 : tie.After-extent2 = search needs in
     let copies = f .copy-piece .ensures in
     let split = rw (e1 .extent .ensures, e2 .extent2 .ensures) at (done .split-rows .ensures) in (
-      s .pre .0 .work,
+      s .pre .0 .planes,
       s .pre .1,
       s .pre .2,
       split-small half (omega arith) (even s) split
@@ -73,7 +73,7 @@ piece-rows-requires-2 c κs =
     let f : tie.After-copy-piece = search needs in
     let s = start f in
     let copies = f .copy-piece .ensures in (
-      s .pre .0 .work,
+      s .pre .0 .planes,
       s .pre .1,
       s .pre .2,
       record {
@@ -95,7 +95,7 @@ returns c =
     (done .split-rows .ensures) in
     λ i ctb component of luma chroma filter across down.
     paint-is (paint-same (paint-of (c .before .before .piece-rows .ensures)) (λ k h. refl)
-    (λ k h. sample-same of (s .pre .0 .work .grid) filter across down luma chroma _ _ _ (f .copy-piece .ensures) (room s .0) split k))
+    (λ k h. sample-same of (s .pre .0 .planes .picture .grid) filter across down luma chroma _ _ _ (f .copy-piece .ensures) (room s .0) split k))
 
 returns-2 : tie.Need-returns-2
 returns-2 c =
@@ -105,7 +105,7 @@ returns-2 c =
     let done : tie.After-piece-rows2 = search needs in
     λ i ctb component of luma chroma filter across down.
     paint-is (paint-same (paint-of (done .piece-rows2 .ensures)) (λ k h. refl)
-    (λ k h. sample-same of (s .pre .0 .work .grid) filter across down luma chroma _ _ _ (f .copy-piece .ensures) (room s .0)
+    (λ k h. sample-same of (s .pre .0 .planes .picture .grid) filter across down luma chroma _ _ _ (f .copy-piece .ensures) (room s .0)
     (unsplit _ _ _ _ (λ (e : subWidth (s .args .picture) ≡ 2). done .before .before .before .if1 .left
     (step .sub-width .ensures .0 ∙ e))) k))
 
@@ -115,18 +115,11 @@ filter-piece-spec =
     (tie.spec
     (λ c. search needs)
     copy-piece-requires
-    (λ c κs. search needs)
-    (λ c κs. search needs)
-    (λ c. search needs)
-    (λ c κs. search needs)
-    (λ c. search needs)
+    (λ c κs. search needs) (λ c κs. search needs) (λ c. search needs) (λ c κs. search needs) (λ c. search needs)
     split-rows-requires
     piece-rows-requires
     piece-rows-requires-2
-    (λ c. search needs)
-    (λ c. search needs)
-    (λ c. search needs)
+    (λ c. search needs) (λ c. search needs) (λ c. search needs)
     returns
-    (λ c. search needs)
-    (λ c. search needs)
+    (λ c. search needs) (λ c. search needs)
     returns-2)

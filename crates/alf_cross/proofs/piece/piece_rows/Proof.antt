@@ -12,7 +12,7 @@ use Rattle.alf_lists.specs.Regions.{inRect}
 use Rattle.alf_pieces.specs.Copies.{extent}
 use Rattle.alf_lists.proofs.Painted.{Paint, paint-is, paint-none, paint-call}
 use Rattle.alf_lists.proofs.Regions.{rect-none, rect-more}
-use Rattle.alf_cross.specs.Work.{splitCrossAt}
+use Rattle.alf_cross.specs.Pieces.{splitCrossAt}
 use Rattle.alf_cross.proofs.PieceRows.{Own, own}
 use Rattle.alf_cross.proofs.piece.piece_rows.Statement.{statement}
 use Rattle.alf_cross.proofs.piece.piece_rows.Tie as tie
@@ -27,49 +27,73 @@ Inv-loop picture grid columns rows split chroma filters output₀ ratio end v₀
 abbrev μ-loop : tie.MeasureT-loop
 μ-loop picture grid columns rows split chroma filters output₀ ratio end v₀ output v = end - v
 
--- the piece in the chroma plane
+-- what the function is given, seen from the height's ratio
+abbrev start : tie.After-sub-height Inv-loop μ-loop → tie.Start Inv-loop μ-loop
+start tall = let entered = tall .before .before in entered .before .before
+
+-- the height's ratio, seen from a turn
+abbrev ratio : tie.In-loop Inv-loop μ-loop → tie.After-sub-height Inv-loop μ-loop
+ratio turn = let looped = turn .before in looped .before .before .before
+
+-- the piece in the chroma plane: its columns
 across : (s : tie.Start Inv-loop μ-loop) → Own (subWidth (s .args .picture)) (s .args .picture .width) (s .args .columns)
 across s = own (subWidth (s .args .picture)) (chroma-ratios (s .args .picture) .0) (s .pre .1)
 
+-- the piece in the chroma plane: its rows
 down : (s : tie.Start Inv-loop μ-loop) → Own (subHeight (s .args .picture)) (s .args .picture .height) (s .args .rows)
 down s = own (subHeight (s .args .picture)) (chroma-ratios (s .args .picture) .1) (s .pre .2)
 
 loop-holds : tie.Need-loop-holds Inv-loop μ-loop
 loop-holds c =
-    let s = c .before .before .before .before .before .before in
-    rw (c .before .before .sub-height .ensures .0) (
+    let tall = c .before .before in
+    let s = start tall in
+    rw (tall .sub-height .ensures .0) (
       le-refl _,
       omega (arith, down s .last),
       paint-none (λ k. rect-none _ _ _ _ _ k (inr (le-refl _))),
     )
 
 -- the loop's test
-below : (c : tie.In-loop Inv-loop μ-loop)
-    → let a = c .before .before .before .before .before .before .before .before .args in
-    c .before .loop .v < a .rows .end / subHeight (a .picture)
-below c = rw (c .before .before .before .before .sub-height .ensures .0) at (c .loop-test .taken)
+below : (turn : tie.In-loop Inv-loop μ-loop) → let a = start (ratio turn) .args in
+    turn .before .loop .v < a .rows .end / subHeight (a .picture)
+below turn = rw (ratio turn .sub-height .ensures .0) at (turn .loop-test .taken)
 
 piece-row-requires : tie.Need-piece-row-requires Inv-loop μ-loop
 piece-row-requires c κs =
-    let p = c .before .before .before .before .before .before .before .before .before .pre in
-    let l = c .before .before .loop in
-    (rw (l .inv .2 .len) (p .0), p .1, p .2, p .3, l .inv .0, below (c .before))
+    let turn = c .before in
+    let p = start (ratio turn) .pre in
+    let l = turn .before .loop in
+    (rw (l .inv .2 .len) (p .0), p .1, p .2, p .3, l .inv .0, below turn)
+
+add-v : tie.Need-add-v Inv-loop μ-loop
+add-v c =
+    let filtered = c .before .before in
+    let turn = filtered .before .before in
+    let s = start (ratio turn) in
+    let N = s .pre .2 .numbers in
+    let P = s .pre .0 .picture in
+    let high = div-le-self (s .args .rows .end) (subHeight (s .args .picture)) in
+    omega (arith, below turn, high, N .high, N .inside, height-bounds _ (P .sizes) (P .ctbSize) .1)
 
 loop-again : tie.Need-loop-again Inv-loop μ-loop
 loop-again c =
-    let l = c .before .before .before .before .before .loop in
-    let s = c .before .before .before .before .before .before .before .before .before .before .before .before in (
+    let filtered = c .before .before in
+    let turn = filtered .before .before in
+    let l = turn .before .loop in
+    let s = start (ratio turn) in (
       omega (arith, l .inv .0),
-      omega (arith, below (c .before .before .before .before)),
-      paint-call _ _ (l .inv .2) (c .before .before .piece-row .ensures) (λ k h t. refl)
+      omega (arith, below turn),
+      paint-call _ _ (l .inv .2) (filtered .piece-row .ensures) (λ k h t. refl)
           (λ k h. rect-more _ _ _ _ _ (omega (arith, across s .last, across s .upto)) (l .inv .0) k),
     )
 
 returns : tie.Need-returns Inv-loop μ-loop
 returns c =
-    let l = c .before .loop in
-    let s = c .before .before .before .before .before .before .before .before in
-    let last = rw (c .before .before .before .before .sub-height .ensures .0) at (c .loop-test .left) in
+    let looped = c .before in
+    let l = looped .loop in
+    let tall = looped .before .before .before in
+    let s = start tall in
+    let last = rw (tall .sub-height .ensures .0) at (c .loop-test .left) in
     rw (across s .last, le-antisymm (l .inv .1) last) at (paint-is (l .inv .2))
 
 pub piece-rows-spec : {M : Type 1} → statement M
@@ -78,24 +102,11 @@ piece-rows-spec =
     (tie.spec
     Inv-loop
     μ-loop
-    (λ c κs. search needs)
-    (λ c. search needs)
-    (λ c. search needs)
+    (λ c κs. search needs) (λ c. search needs) (λ c. search needs)
     loop-holds
     piece-row-requires
-    (λ c.
-    let s = c .before .before .before .before .before .before .before .before .before .before .before .before in
-    let N = s .pre .2 .numbers in
-    let W = s .pre .0 in
-    omega (
-      arith,
-      below (c .before .before .before .before),
-      div-le-self (s .args .rows .end) (subHeight (s .args .picture)),
-      N .high,
-      N .inside,
-      height-bounds _ (W .sizes) (W .ctbSize) .1,
-    ))
-    (λ c. omega (arith, c .before .before .before .before .loop-test .taken))
+    add-v
+    (λ c. let turn : tie.In-loop Inv-loop μ-loop = search needs in omega (arith, turn .loop-test .taken))
     loop-again
     (λ c. search needs)
     returns)

@@ -17,24 +17,30 @@ Inv-loop copy pitch rows split₀ j₀ split j = (j ≤ rows) × (length split �
 abbrev μ-loop : tie.MeasureT-loop
 μ-loop copy pitch rows split₀ j₀ split j = rows - j
 
+-- what the function is given, seen from the loop
+abbrev start : tie.At-loop Inv-loop μ-loop → tie.Start Inv-loop μ-loop
+start looped = looped .before .before .before
+
 -- row j lies in the copy and in the split copy
-room : (c : tie.In-loop Inv-loop μ-loop) → let a = c .before .before .before .before .args in
-    let end = c .before .loop .j * a .pitch + a .pitch in (end ≤ length (a .copy .now)) × (end ≤ length (a .split .now))
-room c =
-    let s = c .before .before .before .before in
+room : (turn : tie.In-loop Inv-loop μ-loop) → let a = start (turn .before) .args in
+    let end = turn .before .loop .j * a .pitch + a .pitch in (end ≤ length (a .copy .now)) × (end ≤ length (a .split .now))
+room turn =
+    let s = start (turn .before) in
     let a = s .args in
-    let j = c .before .loop .j in (
-      row-room j (a .rows) (a .pitch) _ (c .loop-test .taken) (s .pre .1),
-      row-room j (a .rows) (a .pitch) _ (c .loop-test .taken) (s .pre .2),
+    let j = turn .before .loop .j in (
+      row-room j (a .rows) (a .pitch) _ (turn .loop-test .taken) (s .pre .1),
+      row-room j (a .rows) (a .pitch) _ (turn .loop-test .taken) (s .pre .2),
     )
 
 loop-again : tie.Need-loop-again Inv-loop μ-loop
 loop-again c =
-    let call = c .before .before .split-row .ensures in
-    let l = c .before .before .before .before .before .loop in (
+    let done = c .before .before in
+    let looped = done .before .before .before in
+    let l = looped .loop in
+    let call = done .split-row .ensures in (
       omega arith,
       omega (arith, l .inv .1, c .before .split .given),
-      rows-more (c .before .before .before .before .before .before .before .before .pre .0) (l .inv .2) (call .0) (call .1),
+      rows-more (start looped .pre .0) (l .inv .2) (call .0) (call .1),
     )
 
 pub split-rows-spec : {M : Type 1} → statement M
@@ -45,7 +51,7 @@ split-rows-spec =
     μ-loop
     (λ c. (omega arith, refl, record { row = λ j h. record { same = λ k l. omega arith } }))
     (λ c. omega (arith, room c))
-    (λ c κs. omega (arith, room (c .before), c .before .before .loop .inv .1, c .before .before .before .before .before .pre .0))
+    (λ c κs. let turn = c .before in omega (arith, room turn, turn .before .loop .inv .1, start (turn .before) .pre .0))
     (λ c. omega arith)
     (λ c. omega arith)
     loop-again

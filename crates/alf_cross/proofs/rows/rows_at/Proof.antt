@@ -1,15 +1,15 @@
--- `alf_cross::rows::row_offsets` meets its contract. Assumes nothing.
+-- `alf_cross::rows::rows_at` meets its contract. Assumes nothing.
 use mathlib.Core.Path.{refl}
 use mathlib.Core.List.{[]}
 use native.Mathlib.Nat.{mod-lt}
 use native.Mathlib.Omega.{arith}
 use borrow.Author.Needs.{needs}
 use Rattle.alf_spec.specs.Geometry.{axisOf}
-use Rattle.alf_cross.proofs.rows.row_offsets.Statement.{statement}
-use Rattle.alf_cross.proofs.rows.row_offsets.Tie as tie
+use Rattle.alf_cross.proofs.rows.rows_at.Statement.{statement}
+use Rattle.alf_cross.proofs.rows.rows_at.Tie as tie
 
-pub row-offsets-spec : {M : Type 1} → statement M
-row-offsets-spec =
+pub rows-at-spec : {M : Type 1} → statement M
+rows-at-spec =
     tie.close
     (tie.spec
     (λ c κs. search needs)

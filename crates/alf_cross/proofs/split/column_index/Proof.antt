@@ -1,13 +1,13 @@
--- `alf_cross::split::column_place` meets its contract. Assumes nothing.
+-- `alf_cross::split::column_index` meets its contract. Assumes nothing.
 use Prim.Native.Nat.{_*_, _/_, _%_, _≤_}
 use native.Mathlib.Nat.{mul-le-mul}
 use native.Mathlib.Omega.{arith}
 use borrow.Author.Tests.{ne-eqb}
-use Rattle.alf_cross.specs.Taps.{splitPlace}
-use Rattle.alf_cross.proofs.split.column_place.Statement.{statement}
-use Rattle.alf_cross.proofs.split.column_place.Tie as tie
+use Rattle.alf_cross.specs.Taps.{splitIndex}
+use Rattle.alf_cross.proofs.split.column_index.Statement.{statement}
+use Rattle.alf_cross.proofs.split.column_index.Tie as tie
 
--- the place of an odd column's half
+-- where the half of a column begins
 second : (s : tie.Start) → let a = s .args in a .c % 2 * (a .pitch / 2) ≤ 1 * 67
 second s =
     let a = s .args in
@@ -15,9 +15,9 @@ second s =
     let small : a .pitch / 2 ≤ 67 = omega arith in
     mul-le-mul few small
 
-pub column-place-spec : {M : Type 1} → statement M
-unfolding splitPlace
-column-place-spec =
+pub column-index-spec : {M : Type 1} → statement M
+unfolding splitIndex
+column-index-spec =
     tie.close
     (tie.spec
     (λ c. omega (arith, second (c .before)))

@@ -1,6 +1,5 @@
--- What the functions of a piece are given, and what a piece's copy says of its chroma samples. Assumes nothing.
+-- What a piece is corrected from, and what its copy says of its chroma samples. Assumes nothing.
 use mathlib.Core.Path.{_≡_}
-use mathlib.Core.Bool.{true}
 use mathlib.Core.List.{List, [], map}
 use Prim.Native.Nat.{ℕ, _+_, _-_, _*_, _/_, _%_, _≤_, _<_}
 use lib.IntN.{ℤ, pos, natAbs}
@@ -13,27 +12,23 @@ use Rattle.alf_spec.specs.Input.{Input}
 use Rattle.alf_spec.specs.Geometry.{subWidth, subHeight, lineRule, axisOf}
 use Rattle.alf_spec.specs.Parameters.{crossAps, crossIndex, crossCoeff}
 use Rattle.alf_spec.specs.CrossComponent.{crossRows, crossTaps, crossSum, corrected}
-use Rattle.alf_spec.specs.Faults.{pictureSizeValid, ctbSizeValid, bitDepthValid}
-use Rattle.alf_math.specs.Grids.{GridOf}
+use Rattle.alf_math.specs.Grids.{AcceptedPicture}
 use Rattle.alf_pieces.specs.declared.pieces.Piece.{Piece}
 use Rattle.alf_pieces.specs.Copies.{pitch, area}
-use Rattle.alf_cross.specs.Taps.{splitPlace}
+use Rattle.alf_cross.specs.Taps.{splitIndex}
 
 -- an accepted picture and its grid, a chroma plane, the coefficients, and room for the plane that is written
-pub record ChromaWork (p : Picture) (g : Grid) (chroma : List ℕ) (filters : List ℤ) (output : ℕ) : Type 0 where
-  pub grid : GridOf p g
-  pub sizes : pictureSizeValid p ≡ true
-  pub ctbSize : ctbSizeValid p ≡ true
-  pub depth : bitDepthValid p ≡ true
+pub record CrossPlanes (p : Picture) (g : Grid) (chroma : List ℕ) (filters : List ℤ) (output : ℕ) : Type 0 where
+  pub picture : AcceptedPicture p g
   pub chromaLength : length chroma ≡ p .width / subWidth p * (p .height / subHeight p)
   pub outputLength : output ≡ p .width / subWidth p * (p .height / subHeight p)
   pub chromaSamples : (k : ℕ) → getD chroma k 0 < 4096
   pub filterLength : 7 ≤ length filters
   pub coefficients : (j : ℕ) → natAbs (getD filters j (pos 0)) ≤ 128
 
--- and the picture's luma samples, and room for the copy of a piece and for the split copy
+-- these with the picture's luma samples, and room for the copy of a piece and for the split copy
 pub record CrossWork (p : Picture) (g : Grid) (luma chroma : List ℕ) (filters : List ℤ) (copy split output : ℕ) : Type 0 where
-  pub work : ChromaWork p g chroma filters output
+  pub planes : CrossPlanes p g chroma filters output
   pub lumaLength : length luma ≡ p .width * p .height
   pub lumaSamples : (k : ℕ) → getD luma k 0 < 4096
   pub copyRoom : area ≤ copy
@@ -50,12 +45,12 @@ pub record CrossFilter (i : Input) (c : Ctb) (component : ℕ) (filters : List �
       → getD filters j (pos 0) ≡ crossCoeff i (crossAps i c component) component (crossIndex i c component - 1) j
 
 -- Table 47 at luma row y
-abbrev pub rowOffsets : ℕ → ℕ → ℕ → CrossRows
-rowOffsets height ctb y = crossRows (lineRule (axisOf height ctb [] 4 1) y) (ctb - y % ctb)
+abbrev pub crossRowsOf : ℕ → ℕ → ℕ → CrossRows
+crossRowsOf height ctb y = crossRows (lineRule (axisOf height ctb [] 4 1) y) (ctb - y % ctb)
 
 -- the sample at column i and row j of the copy, from the split copy
 abbrev pub splitRead : List ℕ → Piece → ℕ → ℕ × ℕ → ℕ
-splitRead split columns step place = getD split (place .1 * pitch columns + splitPlace (pitch columns) step (place .0)) 0
+splitRead split columns step at = getD split (at .1 * pitch columns + splitIndex (pitch columns) step (at .0)) 0
 
 -- (1533) of the sample at column i and row j of the copy
 unfoldable pub pieceSum : List ℕ → Piece → ℕ → List ℤ → CrossRows → ℕ → ℕ → ℤ
@@ -69,4 +64,4 @@ splitCrossAt p ctb filters split chroma columns rows k =
     let x = k % (p .width / subWidth p) * subWidth p in
     let y = k / (p .width / subWidth p) * subHeight p in
     corrected (p .«bit_depth») (getD chroma k 0)
-    (pieceSum split columns (subWidth p) filters (rowOffsets (p .height) ctb y) (x - columns .start + 3) (y - rows .start + 3))
+    (pieceSum split columns (subWidth p) filters (crossRowsOf (p .height) ctb y) (x - columns .start + 3) (y - rows .start + 3))
