@@ -64,7 +64,8 @@ module _ {p : Picture} {g : Grid} {columns rows : Piece} {copy : List ℕ} {taps
     pub row-small : y ≤ 4096
     row-small = let D = B .work .down in omega (arith, D .high, D .inside, narrow .1)
 
-    module _ (r : ChromaRows) (table : r ≡ chromaRowsOf (p .height) (g .ctb) ratio y) (from : ℕ) (at : from ≡ y * width + columns .start) where
+    module _ (r : ChromaRows) (table : r ≡ chromaRowsOf (p .height) (g .ctb) ratio y) (from : ℕ)
+        (at : from ≡ y * width + columns .start) where
       -- what the row's function asks
       pub row-ready : (n ≤ 128) × (y - rows .start < 128) × (r .y1 ≤ r .y2) × (r .y2 ≤ 2) × (r .shift < 32) × (p .«bit_depth» ≤ 12)
           × (from + n ≤ output) × ((y - rows .start + 6) * (n + 6) ≤ length copy)

@@ -69,4 +69,5 @@ unfoldable pub copyChromaAt : Picture → ℕ → List ℕ → List ℤ → Piec
 copyChromaAt p ctb copy taps columns rows k =
     let x = k % (p .width / subWidth p) in
     let y = k / (p .width / subWidth p) in
-    pieceSample copy (pitch columns) (chromaRowsOf (p .height) ctb (subHeight p) y) taps (p .«bit_depth») (y - rows .start) (x - columns .start)
+    let r = chromaRowsOf (p .height) ctb (subHeight p) y in
+    pieceSample copy (pitch columns) r taps (p .«bit_depth») (y - rows .start) (x - columns .start)

@@ -1,8 +1,9 @@
--- A sum of taps, a tap at a time, and what its reads in the copy need. Assumes nothing.
+-- How large a tap is, and what the call for a tap asks and gives where a kernel makes the sum tap by tap. Assumes nothing.
 use mathlib.Core.Path.{_≡_, refl, _∙_}
 use mathlib.Core.Bool.{Bool, true, false, cond}
 use mathlib.Core.List.{List, [], _∷_, map}
 use Prim.Native.Nat.{ℕ, zero, suc, _+_, _-_, _*_, _^_, _≤_, _<_}
+use native.Mathlib.Nat.{mul-le-mul}
 use native.Mathlib.Omega.{arith}
 use lib.Dec.{ltb}
 use lib.IntN.{ℤ, pos, negsuc, natAbs, _+ℤ_, _-ℤ_, _*ℤ_}
@@ -11,10 +12,10 @@ use lib.Signed.{mag, shrZ}
 use mir.Facts.{toZ-ofZ}
 use mir.Syntax.{w16, w32}
 use mir.Val.{SFits, hbits, toZ, ofZ}
-use Rattle.alf_spec.specs.Lists.{sumBelowℤ}
 use Rattle.alf_spec.specs.Arithmetic.{rounded}
 use Rattle.alf_spec.proofs.Lists.{Each}
-use Rattle.alf_math.proofs.Magnitude.{abs-add, abs-sub, fits-abs, returned}
+use Rattle.alf_math.proofs.Magnitude.{abs-add, abs-sub, abs-mul, fits-abs}
+use Rattle.alf_math.proofs.TapByTap.{Summed, summed-more}
 use Rattle.alf_cross.specs.Taps.{SmallTaps, last, CrossReads, seven}
 use Rattle.alf_cross.specs.declared.kernel.CrossStarts.{CrossStarts}
 
@@ -37,26 +38,10 @@ pub rounded-small : (sum : ℤ) → natAbs sum ≤ 7 * (128 * 4095) → natAbs (
 unfolding rounded
 rounded-small sum h = shifted-small (sum +ℤ pos 64) (omega (arith, abs-add sum (pos 64)))
 
--- ---- a sum of taps
-
--- z is the sum of the first n taps
-pub record Summed (tap : ℕ → ℤ) (n : ℕ) (z : ℤ) : Type 0 where
-  pub is : z ≡ sumBelowℤ n tap
-  pub small : natAbs z ≤ n * (128 * 4095)
-
-pub summed-none : {tap : ℕ → ℤ} → Summed tap 0 (pos 0)
-unfolding sumBelowℤ
-summed-none = record { is = refl; small = omega arith }
-
--- one tap more, as code has it: r is what the call returned
-pub summed-more : {tap : ℕ → ℤ} {n : ℕ} {z r f : ℤ} (sample middle : ℕ) → Summed tap n z → SFits w16 f
-    → (r ≡ z +ℤ toZ w16 (ofZ w16 f) *ℤ (pos sample -ℤ pos middle)) × (natAbs r ≤ natAbs z + 128 * 4095)
-    → f *ℤ (pos sample -ℤ pos middle) ≡ tap n → mag r < 2 ^ hbits w32 → Summed tap (suc n) (toZ w32 (ofZ w32 r))
-unfolding sumBelowℤ
-summed-more {tap} {n} {z} {r} {f} sample middle s fits h e ok = record {
-  is = returned w32 ok (h .0 ∙ rw (toZ-ofZ fits, e, s .is));
-  small = rw (returned w32 {z = r} ok refl) (omega (arith, h .1, s .small));
-}
+-- a tap: its coefficient is as small as an accepted APS has it
+pub tap-small : (f : ℤ) (sample middle : ℕ) → natAbs f ≤ 128 → sample < 4096 → middle < 4096
+    → natAbs (f *ℤ (pos sample -ℤ pos middle)) ≤ 128 * 4095
+tap-small f sample middle small h l = rw abs-mul (mul-le-mul small (differ sample middle h l))
 
 -- ---- the coefficients, read from their bits
 
@@ -89,15 +74,29 @@ reads-less r h = record {
   small = λ k l. r .small k (omega arith);
 }
 
--- what the call for tap n of sample `at` asks: its row begins no later than the last, and its column no later than the last
-pub tap-ready : {split : List ℕ} {s : CrossStarts} {at : ℕ} {tap : ℕ → ℤ} {n : ℕ} {z f : ℤ} (row column : ℕ)
-    → CrossReads split s at → Summed tap n z → n ≤ 6 → SFits w16 f → natAbs f ≤ 128 → row ≤ s .below2 → column ≤ last s
-    → (natAbs z ≤ 2 ^ 30) × (getD split (s .here + at + s .own) 0 < 4096) × (row + at + column < length split)
-    × (getD split (row + at + column) 0 < 4096) × (natAbs (toZ w16 (ofZ w16 f)) ≤ 128)
-tap-ready {s = s} {at = at} row column r sum few fits coefficient first within = (
-  omega (arith, sum .small),
-  r .small (s .here + at + s .own) (omega (arith, r .hereFirst)),
-  omega (arith, r .room),
-  r .small (row + at + column) (omega arith),
-  rw (toZ-ofZ fits) coefficient,
-)
+-- a tap of sample `at`: its coefficient is small, and its row and its column begin no later than the last
+module _ {split : List ℕ} {s : CrossStarts} {at : ℕ} (reads : CrossReads split s at) (f : ℤ) (small : natAbs f ≤ 128) (row column : ℕ)
+    (first : row ≤ s .below2) (within : column ≤ last s) where
+  middle-level : getD split (s .here + at + s .own) 0 < 4096
+  middle-level = reads .small (s .here + at + s .own) (omega (arith, reads .hereFirst))
+
+  sample-level : getD split (row + at + column) 0 < 4096
+  sample-level = reads .small (row + at + column) (omega arith)
+
+  fits : SFits w16 f
+  fits = fits-abs (omega arith)
+
+  -- what its call asks
+  pub tap-ready : {tap : ℕ → ℤ} {n : ℕ} {z : ℤ} → Summed tap (128 * 4095) n z → n ≤ 6
+      → (natAbs z ≤ 2 ^ 30) × (getD split (s .here + at + s .own) 0 < 4096) × (row + at + column < length split)
+      × (getD split (row + at + column) 0 < 4096) × (natAbs (toZ w16 (ofZ w16 f)) ≤ 128)
+  tap-ready sum few =
+      (omega (arith, sum .small), middle-level, omega (arith, reads .room), sample-level, rw (toZ-ofZ fits) small)
+
+  -- the sum after its call, which returned r
+  pub tap-added : {tap : ℕ → ℤ} {n : ℕ} {z r : ℤ} → Summed tap (128 * 4095) n z
+      → r ≡ z +ℤ toZ w16 (ofZ w16 f) *ℤ (pos (getD split (row + at + column) 0) -ℤ pos (getD split (s .here + at + s .own) 0))
+      → f *ℤ (pos (getD split (row + at + column) 0) -ℤ pos (getD split (s .here + at + s .own) 0)) ≡ tap n
+      → mag r < 2 ^ hbits w32 → Summed tap (128 * 4095) (suc n) (toZ w32 (ofZ w32 r))
+  tap-added sum h e ok =
+      summed-more sum (rw (← e) (tap-small f _ _ small sample-level middle-level)) ok (h ∙ rw (toZ-ofZ fits, e))

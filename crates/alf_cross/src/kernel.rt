@@ -50,8 +50,7 @@ fn cross_tap(
     requires { ⌜ (natAbs sum ≤ 2 ^ 30) × (middle < 4096) × (row + at + column < length (now split))
         × (getD (now split) (row + at + column) 0 < 4096)
         × (natAbs f ≤ 128) ⌝ }
-    ensures { λ r. ⌜ (r ≡ sum +ℤ f *ℤ (pos (getD (now (split .entry)) (row + at + column) 0) -ℤ pos middle))
-        × (natAbs r ≤ natAbs sum + 128 * 4095) ⌝ }
+    ensures { λ r. ⌜ r ≡ sum +ℤ f *ℤ (pos (getD (now (split .entry)) (row + at + column) 0) -ℤ pos middle) ⌝ }
 {
     sum + f as i32 * (split[row + at + column] as i16 - middle as i16) as i32
 }
@@ -99,7 +98,8 @@ fn cross_at(
     curr: u16,
     depth: u32,
 ) -> u16
-    requires { ⌜ (CrossReads (now split) s at) × (SmallTaps (f0 ∷ f1 ∷ f2 ∷ f3 ∷ f4 ∷ f5 ∷ f6 ∷ [])) × (curr < 4096) × (1 ≤ depth) × (depth ≤ 12) ⌝ }
+    requires { ⌜ (CrossReads (now split) s at) × (SmallTaps (f0 ∷ f1 ∷ f2 ∷ f3 ∷ f4 ∷ f5 ∷ f6 ∷ []))
+        × (curr < 4096) × (1 ≤ depth) × (depth ≤ 12) ⌝ }
     ensures { λ r. ⌜ r ≡ correctedBy depth curr (splitSum (now (split .entry)) s (f0 ∷ f1 ∷ f2 ∷ f3 ∷ f4 ∷ f5 ∷ f6 ∷ []) at) ⌝ }
 {
     let sum = cross_sum(split, s, at, f0, f1, f2, f3, f4, f5, f6);

@@ -1,5 +1,5 @@
-// The copy of a piece with its columns split, for planes of half the width: what a tap of neighbouring chroma samples reads then stands side
-// by side.
+// The copy of a piece with its columns split, for planes of half the width: what a tap of neighbouring chroma samples reads then stands
+// side by side.
 ghost use mathlib.Core.Path.{_≡_};
 ghost use Prim.Native.Nat.{ℕ, _+_, _*_, _%_, _≤_, _<_};
 ghost use lib.ListN.{length, getD};

@@ -1,140 +1,84 @@
 -- `alf_chroma::kernel::chroma_sum` meets its contract: after each call the sum is that of the taps so far. Assumes nothing.
-use mathlib.Core.Path.{_≡_}
-use Prim.Native.Nat.{ℕ, _+_, _*_, _^_, _≤_, _<_}
+use mathlib.Core.List.{List}
+use Prim.Native.Nat.{ℕ, _+_}
 use native.Mathlib.Omega.{arith}
 use borrow.Author.Needs.{needs}
-use lib.ListN.{length, getD}
-use lib.IntN.{ℤ, natAbs}
-use denote.Ref.{now}
+use lib.IntN.{ℤ}
 use mir.Syntax.{w32}
 use mir.Val.{toZ, ofZ}
-use Rattle.alf_spec.specs.Lists.{sumBelowℤ}
 use Rattle.alf_spec.specs.Arithmetic.{tapSum}
-use Rattle.alf_math.proofs.Magnitude.{returned}
-use Rattle.alf_taps.specs.Spread.{spreadCoeff, spreadClip}
-use Rattle.alf_taps.proofs.SpreadTaps.{spread-sum}
+use Rattle.alf_math.proofs.TapByTap.{summed-none}
+use Rattle.alf_taps.proofs.SpreadTaps.{TapsGiven, SpreadSum, tap-added, tap-ready}
 use Rattle.alf_chroma.specs.Samples.{copyPlus, copyMinus}
 use Rattle.alf_chroma.proofs.kernel.chroma_sum.Statement.{statement}
 use Rattle.alf_chroma.proofs.kernel.chroma_sum.Tie as tie
 
--- the first n taps
-abbrev sum : tie.Start → ℕ → ℤ
-sum s n =
-    let a = s .args in
-    tapSum n (a .curr) (spreadCoeff (now (a .taps)) (a .x)) (spreadClip (now (a .taps)) (a .x))
-    (copyPlus (now (a .copy)) (a .s) (a .x)) (copyMinus (now (a .copy)) (a .s) (a .x))
+-- (1508): the first of each tap's pair
+abbrev plus : tie.Start → List ℕ
+plus s = copyPlus (s .args .copy .now) (s .args .s) (s .args .x)
 
-small : (s : tie.Start) (n : ℕ) → n ≤ 12 → natAbs (sum s n) ≤ n * 2 ^ 20
-small s n few = spread-sum (s .pre .3) _ (s .pre .2) n few _ _ _
+-- (1508): the second of each tap's pair
+abbrev minus : tie.Start → List ℕ
+minus s = copyMinus (s .args .copy .now) (s .args .s) (s .args .x)
 
--- a neighbour of the sample stands in the copy
-near : (s : tie.Start) (row i : ℕ) → row + i ≤ s .args .s .below2 + 5
-    → let k = row + s .args .x + i in (k < length (now (s .args .copy))) × (getD (now (s .args .copy)) k 0 < 4096)
-near s row i h = let R = s .pre .0 in (omega (arith, R .room), R .samples _ (omega arith))
+-- the taps' numbers, and what stands in the copy down to the lowest row
+given : (s : tie.Start) → let a = s .args in TapsGiven (a .copy .now) (a .taps .now) (a .x) (a .curr) (a .s .below2 + a .x + 6)
+given s = let R = s .pre .0 in
+    record { numbers = s .pre .3; column = s .pre .2; sample = s .pre .1; room = R .room; samples = R .samples }
 
--- what the function is given, seen from after each tap
-abbrev start-1 : tie.After-add-tap → tie.Start
-start-1 c = c .before .before
+-- r, which a call returned, is the sum of the first n taps
+abbrev Sum : tie.Start → ℕ → ℤ → Type 0
+Sum s n r = let a = s .args in SpreadSum (a .taps .now) (a .x) (a .curr) (plus s) (minus s) n (toZ w32 (ofZ w32 r))
 
-abbrev start-2 : tie.After-add-tap2 → tie.Start
-start-2 c = start-1 (c .before)
+sum-1 : (c : tie.After-add-tap) → let s : tie.Start = search needs in Sum s 1 (c .add-tap .result)
+unfolding copyPlus copyMinus
+sum-1 c = let s : tie.Start = search needs in
+    tap-added (given s) (plus s) (minus s) summed-none (omega arith) (c .add-tap .ok) (c .add-tap .ensures)
 
-abbrev start-3 : tie.After-add-tap3 → tie.Start
-start-3 c = start-2 (c .before)
+sum-2 : (c : tie.After-add-tap2) → let s : tie.Start = search needs in Sum s 2 (c .add-tap2 .result)
+unfolding copyPlus copyMinus
+sum-2 c = let s : tie.Start = search needs in
+    tap-added (given s) (plus s) (minus s) (sum-1 (c .before)) (omega arith) (c .add-tap2 .ok) (c .add-tap2 .ensures)
 
-abbrev start-4 : tie.After-add-tap4 → tie.Start
-start-4 c = start-3 (c .before)
+sum-3 : (c : tie.After-add-tap3) → let s : tie.Start = search needs in Sum s 3 (c .add-tap3 .result)
+unfolding copyPlus copyMinus
+sum-3 c = let s : tie.Start = search needs in
+    tap-added (given s) (plus s) (minus s) (sum-2 (c .before)) (omega arith) (c .add-tap3 .ok) (c .add-tap3 .ensures)
 
-abbrev start-5 : tie.After-add-tap5 → tie.Start
-start-5 c = start-4 (c .before)
+sum-4 : (c : tie.After-add-tap4) → let s : tie.Start = search needs in Sum s 4 (c .add-tap4 .result)
+unfolding copyPlus copyMinus
+sum-4 c = let s : tie.Start = search needs in
+    tap-added (given s) (plus s) (minus s) (sum-3 (c .before)) (omega arith) (c .add-tap4 .ok) (c .add-tap4 .ensures)
 
-abbrev start-6 : tie.After-add-tap6 → tie.Start
-start-6 c = start-5 (c .before)
+sum-5 : (c : tie.After-add-tap5) → let s : tie.Start = search needs in Sum s 5 (c .add-tap5 .result)
+unfolding copyPlus copyMinus
+sum-5 c = let s : tie.Start = search needs in
+    tap-added (given s) (plus s) (minus s) (sum-4 (c .before)) (omega arith) (c .add-tap5 .ok) (c .add-tap5 .ensures)
 
-sum-1 : (c : tie.After-add-tap) → toZ w32 (ofZ w32 (c .add-tap .result)) ≡ sum (start-1 c) 1
-unfolding tapSum sumBelowℤ copyPlus copyMinus
-sum-1 c = returned w32 (c .add-tap .ok) (c .add-tap .ensures)
-
-sum-2 : (c : tie.After-add-tap2) → toZ w32 (ofZ w32 (c .add-tap2 .result)) ≡ sum (start-2 c) 2
-unfolding tapSum sumBelowℤ copyPlus copyMinus
-sum-2 c = returned w32 (c .add-tap2 .ok) (simp (sum-1 (c .before)) at (c .add-tap2 .ensures))
-
-sum-3 : (c : tie.After-add-tap3) → toZ w32 (ofZ w32 (c .add-tap3 .result)) ≡ sum (start-3 c) 3
-unfolding tapSum sumBelowℤ copyPlus copyMinus
-sum-3 c = returned w32 (c .add-tap3 .ok) (simp (sum-2 (c .before)) at (c .add-tap3 .ensures))
-
-sum-4 : (c : tie.After-add-tap4) → toZ w32 (ofZ w32 (c .add-tap4 .result)) ≡ sum (start-4 c) 4
-unfolding tapSum sumBelowℤ copyPlus copyMinus
-sum-4 c = returned w32 (c .add-tap4 .ok) (simp (sum-3 (c .before)) at (c .add-tap4 .ensures))
-
-sum-5 : (c : tie.After-add-tap5) → toZ w32 (ofZ w32 (c .add-tap5 .result)) ≡ sum (start-5 c) 5
-unfolding tapSum sumBelowℤ copyPlus copyMinus
-sum-5 c = returned w32 (c .add-tap5 .ok) (simp (sum-4 (c .before)) at (c .add-tap5 .ensures))
-
-sum-6 : (c : tie.After-add-tap6) → toZ w32 (ofZ w32 (c .add-tap6 .result)) ≡ sum (start-6 c) 6
-unfolding tapSum sumBelowℤ copyPlus copyMinus
-sum-6 c = returned w32 (c .add-tap6 .ok) (simp (sum-5 (c .before)) at (c .add-tap6 .ensures))
-
-add-tap-requires : tie.Need-add-tap-requires
-add-tap-requires c κs =
-    let s = c .before in
-    let r = s .pre .0 .rise in
-    let a = near s (s .args .s .below2) 3 (omega arith) in
-    let b = near s (s .args .s .above2) 3 (omega arith) in
-    (omega arith, s .pre .1, a .0, b .0, a .1, b .1, omega arith, s .pre .3)
-
-add-tap-requires-2 : tie.Need-add-tap-requires-2
-add-tap-requires-2 c κs =
-    let s = start-1 c in
-    let r = s .pre .0 .rise in
-    let a = near s (s .args .s .below1) 4 (omega arith) in
-    let b = near s (s .args .s .above1) 2 (omega arith) in
-    (rw (sum-1 c) (omega (arith, small s 1 (omega arith))), s .pre .1, a .0, b .0, a .1, b .1, omega arith, s .pre .3)
-
-add-tap-requires-3 : tie.Need-add-tap-requires-3
-add-tap-requires-3 c κs =
-    let s = start-2 c in
-    let r = s .pre .0 .rise in
-    let a = near s (s .args .s .below1) 3 (omega arith) in
-    let b = near s (s .args .s .above1) 3 (omega arith) in
-    (rw (sum-2 c) (omega (arith, small s 2 (omega arith))), s .pre .1, a .0, b .0, a .1, b .1, omega arith, s .pre .3)
-
-add-tap-requires-4 : tie.Need-add-tap-requires-4
-add-tap-requires-4 c κs =
-    let s = start-3 c in
-    let r = s .pre .0 .rise in
-    let a = near s (s .args .s .below1) 2 (omega arith) in
-    let b = near s (s .args .s .above1) 4 (omega arith) in
-    (rw (sum-3 c) (omega (arith, small s 3 (omega arith))), s .pre .1, a .0, b .0, a .1, b .1, omega arith, s .pre .3)
-
-add-tap-requires-5 : tie.Need-add-tap-requires-5
-add-tap-requires-5 c κs =
-    let s = start-4 c in
-    let r = s .pre .0 .rise in
-    let a = near s (s .args .s .here) 5 (omega arith) in
-    let b = near s (s .args .s .here) 1 (omega arith) in
-    (rw (sum-4 c) (omega (arith, small s 4 (omega arith))), s .pre .1, a .0, b .0, a .1, b .1, omega arith, s .pre .3)
-
-add-tap-requires-6 : tie.Need-add-tap-requires-6
-add-tap-requires-6 c κs =
-    let s = start-5 c in
-    let r = s .pre .0 .rise in
-    let a = near s (s .args .s .here) 4 (omega arith) in
-    let b = near s (s .args .s .here) 2 (omega arith) in
-    (rw (sum-5 c) (omega (arith, small s 5 (omega arith))), s .pre .1, a .0, b .0, a .1, b .1, omega arith, s .pre .3)
+sum-6 : (c : tie.After-add-tap6) → let s : tie.Start = search needs in Sum s 6 (c .add-tap6 .result)
+unfolding copyPlus copyMinus
+sum-6 c = let s : tie.Start = search needs in
+    tap-added (given s) (plus s) (minus s) (sum-5 (c .before)) (omega arith) (c .add-tap6 .ok) (c .add-tap6 .ensures)
 
 pub chroma-sum-spec : {M : Type 1} → statement M
+unfolding tapSum
 chroma-sum-spec =
     tie.close
     (tie.spec
-    add-tap-requires
-    add-tap-requires-2
+    (λ c κs. let s : tie.Start = search needs in let r = s .args .s in
+    tap-ready (given s) (plus s) (minus s) (r .below2) 3 (r .above2) 3 0 summed-none (omega (arith, s .pre .0 .rise)))
+    (λ c κs. let s : tie.Start = search needs in let r = s .args .s in
+    tap-ready (given s) (plus s) (minus s) (r .below1) 4 (r .above1) 2 128 (sum-1 c) (omega (arith, s .pre .0 .rise)))
     (λ c. search needs)
-    add-tap-requires-3
+    (λ c κs. let s : tie.Start = search needs in let r = s .args .s in
+    tap-ready (given s) (plus s) (minus s) (r .below1) 3 (r .above1) 3 256 (sum-2 c) (omega (arith, s .pre .0 .rise)))
     (λ c. search needs)
-    add-tap-requires-4
+    (λ c κs. let s : tie.Start = search needs in let r = s .args .s in
+    tap-ready (given s) (plus s) (minus s) (r .below1) 2 (r .above1) 4 384 (sum-3 c) (omega (arith, s .pre .0 .rise)))
     (λ c. search needs)
-    add-tap-requires-5
+    (λ c κs. let s : tie.Start = search needs in let r = s .args .s in
+    tap-ready (given s) (plus s) (minus s) (r .here) 5 (r .here) 1 512 (sum-4 c) (omega (arith, s .pre .0 .rise)))
     (λ c. search needs)
-    add-tap-requires-6
-    sum-6)
+    (λ c κs. let s : tie.Start = search needs in let r = s .args .s in
+    tap-ready (given s) (plus s) (minus s) (r .here) 4 (r .here) 2 640 (sum-5 c) (omega (arith, s .pre .0 .rise)))
+    (λ c. sum-6 c .is))

@@ -1,16 +1,15 @@
 -- `alf_cross::kernel::cross_tap` meets its contract: a difference of samples fits 16 bits, and its product with a coefficient is small.
 -- Assumes nothing.
-use mathlib.Core.Path.{_≡_, refl}
+use mathlib.Core.Path.{_≡_}
 use Prim.Native.Nat.{_+_, _*_, _≤_}
-use native.Mathlib.Nat.{mul-le-mul}
 use native.Mathlib.Omega.{arith}
 use lib.ListN.{getD}
 use lib.IntN.{ℤ, pos, natAbs, _+ℤ_, _-ℤ_, _*ℤ_}
 use mir.Syntax.{w16, w32}
 use mir.Val.{SFits, toZ}
 use borrow.Author.Needs.{needs}
-use Rattle.alf_math.proofs.Magnitude.{abs-add, abs-mul, fits-abs, back, widened, words}
-use Rattle.alf_cross.proofs.TapSums.{differ}
+use Rattle.alf_math.proofs.Magnitude.{abs-add, fits-abs, back, widened, words}
+use Rattle.alf_cross.proofs.TapSums.{differ, tap-small}
 use Rattle.alf_cross.proofs.kernel.cross_tap.Statement.{statement}
 use Rattle.alf_cross.proofs.kernel.cross_tap.Tie as tie
 
@@ -36,32 +35,24 @@ abbrev added : tie.Start → ℤ
 added s = s .args .f *ℤ change s
 
 added-small : (s : tie.Start) → natAbs (added s) ≤ 128 * 4095
-added-small s = rw abs-mul (mul-le-mul (s .pre .4) (change-small s))
+added-small s = tap-small (s .args .f) _ _ (s .pre .4) (s .pre .3) (s .pre .1)
 
 added-fits : (s : tie.Start) → SFits w32 (added s)
 added-fits s = fits-abs (omega (arith, added-small s))
 
-total-small : (s : tie.Start) → natAbs (s .args .sum +ℤ added s) ≤ natAbs (s .args .sum) + 128 * 4095
-total-small s = omega (arith, abs-add (s .args .sum) (added s), added-small s)
-
 total-fits : (s : tie.Start) → SFits w32 (s .args .sum +ℤ added s)
-total-fits s = fits-abs (omega (arith, total-small s))
+total-fits s = fits-abs (omega (arith, abs-add (s .args .sum) (added s), added-small s))
 
 pub cross-tap-spec : {M : Type 1} → statement M
 cross-tap-spec =
     tie.close
     (tie.spec
     (λ c. let f = c .fits .f in simp (words, f) (widened f))
-    (λ c. search needs)
-    (λ c. search needs)
-    (λ c. search needs)
-    (λ c. search needs)
-    (λ c. search needs)
-    (λ c. search needs)
+    (λ c. search needs) (λ c. search needs) (λ c. search needs) (λ c. search needs) (λ c. search needs) (λ c. search needs)
     (λ c. let s = c .before in simp (sample-is s, middle-is s) (change-fits s))
     (λ c. let s = c .before in let f = change-fits s in simp (sample-is s, middle-is s, words, f) (widened f))
     (λ c. let s = c .before in simp (sample-is s, middle-is s, words, change-fits s, s .fits .f) (added-fits s))
     (λ c. let s = c .before in simp (sample-is s, middle-is s, words, change-fits s, s .fits .f, s .fits .sum, added-fits s) (total-fits s))
     (λ c.
     let s = c .before in
-    simp (sample-is s, middle-is s, words, change-fits s, s .fits .f, s .fits .sum, added-fits s, total-fits s) (refl, total-small s)))
+    simp (sample-is s, middle-is s, words, change-fits s, s .fits .f, s .fits .sum, added-fits s, total-fits s)))

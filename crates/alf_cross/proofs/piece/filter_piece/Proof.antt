@@ -40,22 +40,22 @@ even s = let across = s .pre .1 in let filled = across .numbers .filled in omega
 
 split-rows-requires : tie.Need-split-rows-requires
 split-rows-requires c κs =
-    let f : tie.After-copy-piece = search needs in
-    let s = start f in
-    let e1 : tie.After-extent = search needs in
-    let e2 : tie.After-extent2 = search needs in
-    rw (e1 .extent .ensures, e2 .extent2 .ensures)
-    (even s, rw (paint-of (f .copy-piece .ensures) .len) (room s .0), room s .1)
+    let copied : tie.After-copy-piece = search needs in
+    let s = start copied in
+    let long : tie.After-extent = search needs in
+    let high : tie.After-extent2 = search needs in
+    rw (long .extent .ensures, high .extent2 .ensures)
+    (even s, rw (paint-of (copied .copy-piece .ensures) .len) (room s .0), room s .1)
 
 piece-rows-requires : tie.Need-piece-rows-requires
 piece-rows-requires c κs =
-    let f : tie.After-copy-piece = search needs in
-    let s = start f in
+    let copied : tie.After-copy-piece = search needs in
+    let s = start copied in
     let done : tie.After-split-rows = search needs in
-    let e1 : tie.After-extent = search needs in
-    let e2 : tie.After-extent2 = search needs in
-    let copies = f .copy-piece .ensures in
-    let split = rw (e1 .extent .ensures, e2 .extent2 .ensures) at (done .split-rows .ensures) in (
+    let long : tie.After-extent = search needs in
+    let high : tie.After-extent2 = search needs in
+    let copies = copied .copy-piece .ensures in
+    let split = rw (long .extent .ensures, high .extent2 .ensures) at (done .split-rows .ensures) in (
       s .pre .0 .planes,
       s .pre .1,
       s .pre .2,
@@ -70,9 +70,9 @@ piece-rows-requires c κs =
 
 piece-rows-requires-2 : tie.Need-piece-rows-requires-2
 piece-rows-requires-2 c κs =
-    let f : tie.After-copy-piece = search needs in
-    let s = start f in
-    let copies = f .copy-piece .ensures in (
+    let copied : tie.After-copy-piece = search needs in
+    let s = start copied in
+    let copies = copied .copy-piece .ensures in (
       s .pre .0 .planes,
       s .pre .1,
       s .pre .2,
@@ -85,27 +85,28 @@ piece-rows-requires-2 c κs =
 
 returns : tie.Need-returns
 returns c =
-    let f : tie.After-copy-piece = search needs in
-    let s = start f in
+    let copied : tie.After-copy-piece = search needs in
+    let s = start copied in
     let done : tie.After-split-rows = search needs in
-    let e1 : tie.After-extent = search needs in
-    let e2 : tie.After-extent2 = search needs in
+    let long : tie.After-extent = search needs in
+    let high : tie.After-extent2 = search needs in
     let step : tie.After-sub-width = search needs in
-    let split = rw (e1 .extent .ensures, e2 .extent2 .ensures, ← e1 .before .before .if1 .taken, step .sub-width .ensures .0) at
+    let split = rw (long .extent .ensures, high .extent2 .ensures, ← long .before .before .if1 .taken, step .sub-width .ensures .0) at
     (done .split-rows .ensures) in
     λ i ctb component of luma chroma filter across down.
     paint-is (paint-same (paint-of (c .before .before .piece-rows .ensures)) (λ k h. refl)
-    (λ k h. sample-same of (s .pre .0 .planes .picture .grid) filter across down luma chroma _ _ _ (f .copy-piece .ensures) (room s .0) split k))
+    (λ k h. sample-same of (s .pre .0 .planes .picture .grid) filter across down luma chroma _ _ _ (copied .copy-piece .ensures) (room s .0)
+    split k))
 
 returns-2 : tie.Need-returns-2
 returns-2 c =
-    let f : tie.After-copy-piece = search needs in
-    let s = start f in
+    let copied : tie.After-copy-piece = search needs in
+    let s = start copied in
     let step : tie.After-sub-width = search needs in
     let done : tie.After-piece-rows2 = search needs in
     λ i ctb component of luma chroma filter across down.
     paint-is (paint-same (paint-of (done .piece-rows2 .ensures)) (λ k h. refl)
-    (λ k h. sample-same of (s .pre .0 .planes .picture .grid) filter across down luma chroma _ _ _ (f .copy-piece .ensures) (room s .0)
+    (λ k h. sample-same of (s .pre .0 .planes .picture .grid) filter across down luma chroma _ _ _ (copied .copy-piece .ensures) (room s .0)
     (unsplit _ _ _ _ (λ (e : subWidth (s .args .picture) ≡ 2). done .before .before .before .if1 .left
     (step .sub-width .ensures .0 ∙ e))) k))
 

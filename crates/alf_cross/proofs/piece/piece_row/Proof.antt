@@ -58,7 +58,8 @@ offset-row-requires c κs =
     let fits = row-fits (a .picture) (s .pre .1) (s .pre .2) (a .v) (s .pre .4) (s .pre .5) in
     rw (indexed .chroma-index .ensures, wide .sub-width .ensures .0, tall .sub-height .ensures .0, long .extent .ensures) (
       row-reads (a .v * subHeight (a .picture) - a .rows .start + 3) (pitch (a .columns)) (subWidth (a .picture)) (pitch (a .rows))
-          _ N (s .pre .3) (omega arith) (columns-fit (subWidth (a .picture)) 0 (table .rows-at .result) (chroma-ratios (a .picture) .0) (s .pre .1)),
+          _ N (s .pre .3) (omega arith)
+          (columns-fit (subWidth (a .picture)) 0 (table .rows-at .result) (chroma-ratios (a .picture) .0) (s .pre .1)),
       omega (arith, s .pre .1 .numbers .small),
       omega (arith, N .above),
       N .order,
