@@ -33,15 +33,8 @@ pub record Own (ratio n : ℕ) (p : Piece) : Type 0 where
   pub upto : p .end / ratio ≤ n / ratio
 
 pub own : {n : ℕ} {p : Piece} (ratio : ℕ) → Ratio ratio → BlockPiece n p → Own ratio n p
-own _ whole B = let N = B .numbers in let filled = N .filled in let high = N .high in let inside = N .inside in omega arith
-own _ half B =
-    let N = B .numbers in
-    let start = B .start4 in
-    let end = B .end4 in
-    let filled = N .filled in
-    let high = N .high in
-    let inside = N .inside in
-    omega arith
+own _ whole B = let N = B .numbers in omega (arith, N .filled, N .high, N .inside)
+own _ half B = let N = B .numbers in omega (arith, B .start4, B .end4, N .filled, N .high, N .inside)
 
 -- ---- the rows that are read
 

@@ -57,7 +57,7 @@ module _ (copy split : List ℕ) (pitch at i : ℕ) (fits : at + pitch ≤ lengt
   abbrev once : List ℕ
   once = set split (at + i) (getD copy (at + 2 * i) 0)
 
-  -- and the next odd one
+  -- the next odd column after it
   abbrev twice : List ℕ
   twice = set once (at + pitch / 2 + i) (getD copy (at + 2 * i + 1) 0)
 

@@ -53,21 +53,25 @@ module _ {sliceMap sliceParams ctbParams : List ℕ} {bank : List ℤ} {k : ℕ}
     few : alternative ≤ 7
     few = rw v (T .alternatives component is)
 
-    pub chroma-coefficients : (j : ℕ) → j < 6 → CoeffRange (getD ys j (pos 0))
+    chroma-coefficients : (j : ℕ) → j < 6 → CoeffRange (getD ys j (pos 0))
     chroma-coefficients j h =
         rw (from-aps P (omega arith) j _ (omega arith) refl)
         (chroma-coefficient (T .slice .bankNumbers) _ alternative j few h)
 
-    pub chroma-clips : (j : ℕ) → j < 6 → ClipRange (getD ys (6 + j) (pos 0))
+    chroma-clips : (j : ℕ) → j < 6 → ClipRange (getD ys (6 + j) (pos 0))
     chroma-clips j h =
         rw (from-aps P (omega arith) (6 + j) _ (omega arith) refl)
         (chroma-clip (T .slice .bankNumbers) _ alternative (6 + j) few (omega arith) (omega arith))
 
-    pub chroma-filter : (i : Input) (c : Ctb) → TablesGiven i c sliceMap sliceParams bank ctbParams k → ChromaFilter i c component ys
+    chroma-filter : (i : Input) (c : Ctb) → TablesGiven i c sliceMap sliceParams bank ctbParams k → ChromaFilter i c component ys
     chroma-filter i c t = record {
       coefficients = λ j h. rw (own-number t (4 + component), ← v) (from-input P (omega arith) t j _ (omega arith) refl);
       clips = λ j h. rw (own-number t (4 + component), ← v) (from-input P (omega arith) t (6 + j) _ (omega arith) (omega arith));
     }
+
+    pub chroma-loaded : ((j : ℕ) → j < 6 → CoeffRange (getD ys j (pos 0))) × ((j : ℕ) → j < 6 → ClipRange (getD ys (6 + j) (pos 0)))
+        × ((i : Input) (c : Ctb) → TablesGiven i c sliceMap sliceParams bank ctbParams k → ChromaFilter i c component ys)
+    chroma-loaded = (chroma-coefficients, chroma-clips, chroma-filter)
 
   -- a filter of the slice's cross-component APS; what is not written is 0
   module _ {component index : ℕ} (is : component ≤ 1) (v : index ≡ ctbNumber ctbParams k (6 + component)) (on : 0 < index)
@@ -81,16 +85,21 @@ module _ {sliceMap sliceParams ctbParams : List ℕ} {bank : List ℤ} {k : ℕ}
         ⊎-elim (λ l. fill-out (P .filled) j (omega arith) (never _ (λ t. let z = run-facts 0 7 j t in omega arith)) ∙ empty j)
         (λ l. List·getD-eq-default ys (pos 0) {n = j} (omega (arith, P .filled .len))) (order j 600)
 
-    pub cross-coefficients : (j : ℕ) → CoeffRange (getD ys j (pos 0))
+    cross-coefficients : (j : ℕ) → CoeffRange (getD ys j (pos 0))
     cross-coefficients j =
         ⊎-elim
         (λ l.
         rw (from-aps P (omega arith) j _ l refl) (cross-coefficient (T .slice .bankNumbers) _ _ (omega arith) (omega (arith, few-filters))))
         (λ l. rw (rest-zero j l) (omega arith)) (order j 7)
 
-    pub cross-filter : (i : Input) (c : Ctb) → TablesGiven i c sliceMap sliceParams bank ctbParams k
+    cross-filter : (i : Input) (c : Ctb) → TablesGiven i c sliceMap sliceParams bank ctbParams k
         → (j : ℕ) → j < 7 → getD ys j (pos 0) ≡ crossCoeff i (crossAps i c component) component (crossIndex i c component - 1) j
     cross-filter i c t j h = rw (own-number t (6 + component), ← v) (from-input P (omega arith) t j _ h refl)
+
+    pub cross-loaded : ((j : ℕ) → CoeffRange (getD ys j (pos 0)))
+        × ((i : Input) (c : Ctb) → TablesGiven i c sliceMap sliceParams bank ctbParams k
+        → (j : ℕ) → j < 7 → getD ys j (pos 0) ≡ crossCoeff i (crossAps i c component) component (crossIndex i c component - 1) j)
+    cross-loaded = (cross-coefficients, cross-filter)
 
   -- the filters of one of the slice's luma APSs
   module _ {set : ℕ} (v : set ≡ ctbNumber ctbParams k 3) (late : 16 ≤ set)

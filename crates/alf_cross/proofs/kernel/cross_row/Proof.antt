@@ -50,9 +50,7 @@ cross-row-spec =
     Inv-loop
     μ-loop
     (λ c. (omega arith, paint-none (run-none _)))
-    (λ c. omega arith)
-    (λ c. omega arith)
-    (λ c. omega arith)
+    (λ c. omega arith) (λ c. omega arith) (λ c. omega arith)
     (λ c κs.
     let looped = c .before .before in
     let s = start looped in (
@@ -62,11 +60,9 @@ cross-row-spec =
       s .pre .2,
       s .pre .3,
     ))
-    (λ c. omega arith)
-    (λ c. omega arith)
+    (λ c. omega arith) (λ c. omega arith)
     (λ c. omega (arith, c .before .before .before .loop .inv .1 .len))
-    (λ c. omega arith)
-    (λ c. omega arith)
+    (λ c. omega arith) (λ c. omega arith)
     loop-again
     (λ c. search needs)
     (λ c.

@@ -29,43 +29,43 @@ Sum s n r = Summed (tap s) (128 * 4095) n (toZ w32 (ofZ w32 r))
 sum-1 : (c : tie.After-cross-tap) → let s : tie.Start = search needs in Sum s 1 (c .cross-tap .result)
 unfolding splitTaps
 sum-1 c = let s : tie.Start = search needs in let R = s .pre .0 in let a = s .args .s in
-    tap-added R _ (s .pre .1 .each 0) (a .above1) (a .own) (R .aboveFirst) (omega arith) summed-none
+    tap-added R (s .args .f0) (s .pre .1 .each 0) (a .above1) (a .own) (R .aboveFirst) (omega arith) summed-none
     (c .cross-tap .ensures) refl (c .cross-tap .ok)
 
 sum-2 : (c : tie.After-cross-tap2) → let s : tie.Start = search needs in Sum s 2 (c .cross-tap2 .result)
 unfolding splitTaps
 sum-2 c = let s : tie.Start = search needs in let R = s .pre .0 in let a = s .args .s in
-    tap-added R _ (s .pre .1 .each 1) (a .here) (a .left) (R .hereFirst) (omega arith) (sum-1 (c .before))
+    tap-added R (s .args .f1) (s .pre .1 .each 1) (a .here) (a .left) (R .hereFirst) (omega arith) (sum-1 (c .before))
     (c .cross-tap2 .ensures) refl (c .cross-tap2 .ok)
 
 sum-3 : (c : tie.After-cross-tap3) → let s : tie.Start = search needs in Sum s 3 (c .cross-tap3 .result)
 unfolding splitTaps
 sum-3 c = let s : tie.Start = search needs in let R = s .pre .0 in let a = s .args .s in
-    tap-added R _ (s .pre .1 .each 2) (a .here) (a .right) (R .hereFirst) (omega arith) (sum-2 (c .before))
+    tap-added R (s .args .f2) (s .pre .1 .each 2) (a .here) (a .right) (R .hereFirst) (omega arith) (sum-2 (c .before))
     (c .cross-tap3 .ensures) refl (c .cross-tap3 .ok)
 
 sum-4 : (c : tie.After-cross-tap4) → let s : tie.Start = search needs in Sum s 4 (c .cross-tap4 .result)
 unfolding splitTaps
 sum-4 c = let s : tie.Start = search needs in let R = s .pre .0 in let a = s .args .s in
-    tap-added R _ (s .pre .1 .each 3) (a .below1) (a .left) (R .belowFirst) (omega arith) (sum-3 (c .before))
+    tap-added R (s .args .f3) (s .pre .1 .each 3) (a .below1) (a .left) (R .belowFirst) (omega arith) (sum-3 (c .before))
     (c .cross-tap4 .ensures) refl (c .cross-tap4 .ok)
 
 sum-5 : (c : tie.After-cross-tap5) → let s : tie.Start = search needs in Sum s 5 (c .cross-tap5 .result)
 unfolding splitTaps
 sum-5 c = let s : tie.Start = search needs in let R = s .pre .0 in let a = s .args .s in
-    tap-added R _ (s .pre .1 .each 4) (a .below1) (a .own) (R .belowFirst) (omega arith) (sum-4 (c .before))
+    tap-added R (s .args .f4) (s .pre .1 .each 4) (a .below1) (a .own) (R .belowFirst) (omega arith) (sum-4 (c .before))
     (c .cross-tap5 .ensures) refl (c .cross-tap5 .ok)
 
 sum-6 : (c : tie.After-cross-tap6) → let s : tie.Start = search needs in Sum s 6 (c .cross-tap6 .result)
 unfolding splitTaps
 sum-6 c = let s : tie.Start = search needs in let R = s .pre .0 in let a = s .args .s in
-    tap-added R _ (s .pre .1 .each 5) (a .below1) (a .right) (R .belowFirst) (omega arith) (sum-5 (c .before))
+    tap-added R (s .args .f5) (s .pre .1 .each 5) (a .below1) (a .right) (R .belowFirst) (omega arith) (sum-5 (c .before))
     (c .cross-tap6 .ensures) refl (c .cross-tap6 .ok)
 
 sum-7 : (c : tie.After-cross-tap7) → let s : tie.Start = search needs in Sum s 7 (c .cross-tap7 .result)
 unfolding splitTaps
 sum-7 c = let s : tie.Start = search needs in let R = s .pre .0 in let a = s .args .s in
-    tap-added R _ (s .pre .1 .each 6) (a .below2) (a .own) (le-refl _) (omega arith) (sum-6 (c .before))
+    tap-added R (s .args .f6) (s .pre .1 .each 6) (a .below2) (a .own) (le-refl _) (omega arith) (sum-6 (c .before))
     (c .cross-tap7 .ensures) refl (c .cross-tap7 .ok)
 
 pub cross-sum-spec : {M : Type 1} → statement M
@@ -75,17 +75,18 @@ cross-sum-spec =
     (tie.spec
     (λ c. search needs) (λ c. search needs) (λ c. search needs) (λ c. search needs)
     (λ c κs. let s : tie.Start = search needs in let R = s .pre .0 in let a = s .args .s in
-    tap-ready R _ (s .pre .1 .each 0) (a .above1) (a .own) (R .aboveFirst) (omega arith) (summed-none {tap = tap s}) (omega arith))
+    tap-ready R (s .args .f0) (s .pre .1 .each 0) (a .above1) (a .own) (R .aboveFirst) (omega arith) (summed-none {tap = tap s})
+    (omega arith))
     (λ c κs. let s : tie.Start = search needs in let R = s .pre .0 in let a = s .args .s in
-    tap-ready R _ (s .pre .1 .each 1) (a .here) (a .left) (R .hereFirst) (omega arith) (sum-1 c) (omega arith))
+    tap-ready R (s .args .f1) (s .pre .1 .each 1) (a .here) (a .left) (R .hereFirst) (omega arith) (sum-1 c) (omega arith))
     (λ c κs. let s : tie.Start = search needs in let R = s .pre .0 in let a = s .args .s in
-    tap-ready R _ (s .pre .1 .each 2) (a .here) (a .right) (R .hereFirst) (omega arith) (sum-2 c) (omega arith))
+    tap-ready R (s .args .f2) (s .pre .1 .each 2) (a .here) (a .right) (R .hereFirst) (omega arith) (sum-2 c) (omega arith))
     (λ c κs. let s : tie.Start = search needs in let R = s .pre .0 in let a = s .args .s in
-    tap-ready R _ (s .pre .1 .each 3) (a .below1) (a .left) (R .belowFirst) (omega arith) (sum-3 c) (omega arith))
+    tap-ready R (s .args .f3) (s .pre .1 .each 3) (a .below1) (a .left) (R .belowFirst) (omega arith) (sum-3 c) (omega arith))
     (λ c κs. let s : tie.Start = search needs in let R = s .pre .0 in let a = s .args .s in
-    tap-ready R _ (s .pre .1 .each 4) (a .below1) (a .own) (R .belowFirst) (omega arith) (sum-4 c) (omega arith))
+    tap-ready R (s .args .f4) (s .pre .1 .each 4) (a .below1) (a .own) (R .belowFirst) (omega arith) (sum-4 c) (omega arith))
     (λ c κs. let s : tie.Start = search needs in let R = s .pre .0 in let a = s .args .s in
-    tap-ready R _ (s .pre .1 .each 5) (a .below1) (a .right) (R .belowFirst) (omega arith) (sum-5 c) (omega arith))
+    tap-ready R (s .args .f5) (s .pre .1 .each 5) (a .below1) (a .right) (R .belowFirst) (omega arith) (sum-5 c) (omega arith))
     (λ c κs. let s : tie.Start = search needs in let R = s .pre .0 in let a = s .args .s in
-    tap-ready R _ (s .pre .1 .each 6) (a .below2) (a .own) (le-refl _) (omega arith) (sum-6 c) (omega arith))
+    tap-ready R (s .args .f6) (s .pre .1 .each 6) (a .below2) (a .own) (le-refl _) (omega arith) (sum-6 c) (omega arith))
     (λ c. (sum-7 c .is, sum-7 c .small)))

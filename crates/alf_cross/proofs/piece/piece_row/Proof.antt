@@ -46,9 +46,9 @@ offset-row-requires : tie.Need-offset-row-requires
 offset-row-requires c κs =
     let indexed = c .before in
     let table = indexed .before .before in
-    let long = table .before .before in
-    let tall = long .before in
-    let wide = tall .before in
+    let long : tie.After-extent = search needs in
+    let tall : tie.After-sub-height = search needs in
+    let wide : tie.After-sub-width = search needs in
     let s = start wide in
     let a = s .args in
     let W = s .pre .0 in

@@ -1,7 +1,7 @@
 -- `alf_params::filters::load_chroma` meets its contract. Assumes nothing.
 use native.Mathlib.Omega.{arith}
 use borrow.Author.Needs.{needs}
-use Rattle.alf_params.proofs.LoadedFilters.{chroma-coefficients, chroma-clips, chroma-filter}
+use Rattle.alf_params.proofs.LoadedFilters.{chroma-loaded}
 use Rattle.alf_params.proofs.filters.load_chroma.Statement.{statement}
 use Rattle.alf_params.proofs.filters.load_chroma.Tie as tie
 
@@ -20,14 +20,7 @@ returns : tie.Need-returns
 returns c =
     let start : tie.Start = search needs in
     let own : tie.After-ctb-number = search needs in
-    let loaded : tie.After-load-from-aps = search needs in
-    let T = start .pre .1 in
-    let v = own .ctb-number .ensures in
-    let P = loaded .load-from-aps .ensures in (
-      chroma-coefficients T (start .pre .2) (start .pre .0) v P,
-      chroma-clips T (start .pre .2) (start .pre .0) v P,
-      chroma-filter T (start .pre .2) (start .pre .0) v P,
-    )
+    chroma-loaded (start .pre .1) (start .pre .2) (start .pre .0) (own .ctb-number .ensures) (c .before .load-from-aps .ensures)
 
 pub load-chroma-spec : {M : Type 1} → statement M
 load-chroma-spec =

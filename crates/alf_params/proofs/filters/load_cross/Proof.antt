@@ -1,7 +1,7 @@
 -- `alf_params::filters::load_cross` meets its contract. Assumes nothing.
 use native.Mathlib.Omega.{arith}
 use borrow.Author.Needs.{needs}
-use Rattle.alf_params.proofs.LoadedFilters.{cross-coefficients, cross-filter}
+use Rattle.alf_params.proofs.LoadedFilters.{cross-loaded}
 use Rattle.alf_params.proofs.filters.load_cross.Statement.{statement}
 use Rattle.alf_params.proofs.filters.load_cross.Tie as tie
 
@@ -20,14 +20,9 @@ returns : tie.Need-returns
 returns c =
     let start : tie.Start = search needs in
     let own : tie.After-ctb-number = search needs in
-    let loaded : tie.After-load-from-aps = search needs in
-    let T = start .pre .1 in
     let v = own .ctb-number .ensures in
     let on = rw (← v) at (start .pre .2) in
-    let P = loaded .load-from-aps .ensures in (
-      cross-coefficients T (start .pre .3) (start .pre .0) v on (start .pre .4) P,
-      cross-filter T (start .pre .3) (start .pre .0) v on (start .pre .4) P,
-    )
+    cross-loaded (start .pre .1) (start .pre .3) (start .pre .0) v on (start .pre .4) (c .before .load-from-aps .ensures)
 
 pub load-cross-spec : {M : Type 1} → statement M
 load-cross-spec =

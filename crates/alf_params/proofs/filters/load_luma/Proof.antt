@@ -20,7 +20,7 @@ returns : tie.Need-returns
 returns c =
     let start : tie.Start = search needs in
     let own : tie.After-ctb-number = search needs in
-    let loaded : tie.After-load-fixed = search needs in
+    let loaded = c .before in
     let then = loaded .before .before in
     let v = own .ctb-number .ensures in
     let P = loaded .load-fixed .ensures in (
@@ -30,12 +30,12 @@ returns c =
 
 returns-2 : tie.Need-returns-2
 returns-2 c =
-    let start : tie.Start = search needs in
-    let own : tie.After-ctb-number = search needs in
-    let loaded : tie.After-load-from-aps = search needs in
+    let loaded = c .before in
     let else = loaded .before .before in
-    let v = own .ctb-number .ensures in
-    let P = loaded .load-from-aps .ensures in (
+    let own = else .before in
+    let start : tie.Start = search needs in
+    let P = loaded .load-from-aps .ensures in
+    let v = own .ctb-number .ensures in (
       aps-numbers (start .pre .0) (start .pre .2) v (else .if1 .left) P,
       λ i d t g. aps-filters (start .pre .0) (start .pre .2) v (else .if1 .left) P i d t,
     )

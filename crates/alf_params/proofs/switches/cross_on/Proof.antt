@@ -8,8 +8,4 @@ use Rattle.alf_params.proofs.switches.cross_on.Tie as tie
 pub cross-on-spec : {M : Type 1} → statement M
 unfolding crossOn
 cross-on-spec =
-    tie.close
-    (tie.spec
-    (λ c. search needs)
-    (λ c κs. search needs)
-    (λ c i d p q. rw (c .ctb-number .ensures, ctb-param i d p q)))
+    tie.close (tie.spec (λ c. search needs) (λ c κs. search needs) (λ c i d p q. rw (c .ctb-number .ensures, ctb-param i d p q)))

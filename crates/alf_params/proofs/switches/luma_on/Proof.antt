@@ -8,7 +8,4 @@ use Rattle.alf_params.proofs.switches.luma_on.Tie as tie
 pub luma-on-spec : {M : Type 1} → statement M
 unfolding lumaOn
 luma-on-spec =
-    tie.close
-    (tie.spec
-    (λ c κs. search needs)
-    (λ c i d p q. rw (c .ctb-number .ensures, ctb-param i d p q)))
+    tie.close (tie.spec (λ c κs. search needs) (λ c i d p q. rw (c .ctb-number .ensures, ctb-param i d p q)))
