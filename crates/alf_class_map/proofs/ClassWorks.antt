@@ -8,10 +8,8 @@ use native.Mathlib.Nat.{mul-comm, mul-le-mul-right, div-one}
 use native.Mathlib.Omega.{arith}
 use Rattle.alf_spec.specs.declared.Picture.{Picture}
 use Rattle.alf_spec.specs.declared.Grid.{Grid}
-use Rattle.alf_spec.specs.Lists.{painted}
 use Rattle.alf_spec.specs.Input.{Layout, classes, classesInput}
 use Rattle.alf_spec.specs.Geometry.{ctbSize, planeOf, planeLength, classPlane}
-use Rattle.alf_spec.specs.Process.{classAt}
 use Rattle.alf_spec.specs.Faults.{virtualListValid, fault}
 use Rattle.alf_spec.proofs.Accepted.{AcceptedLayout, accepted, lists-valid, luma-length, luma-samples, output-length}
 use Rattle.alf_math.specs.Grids.{GridOf}
@@ -20,9 +18,6 @@ use Rattle.alf_math.proofs.CtbAddresses.{ctb-in-picture}
 use Rattle.alf_pieces.specs.declared.pieces.Piece.{Piece}
 use Rattle.alf_pieces.specs.Pieces.{BlockPiece}
 use Rattle.alf_pieces.specs.Copies.{area}
-use Rattle.alf_pieces.specs.CtbRegions.{ofCtb, beforeCtb}
-use Rattle.alf_lists.proofs.Painted.{Paint, paint-call}
-use Rattle.alf_pieces.proofs.CtbRegions.{next-ctb}
 use Rattle.alf_classify.specs.Work.{MapRoom}
 use Rattle.alf_class_map.specs.Work.{ClassWork}
 use Rattle.alf_classify.proofs.PieceRows.{blocks}
@@ -88,10 +83,3 @@ module _ (l : Layout) (luma : List ℕ) (n : ℕ) (ok : fault classes (classesIn
         let lists = lists-valid l (accepted-classes .virtualBoundaries) in
         let begins = ctb-in-picture grid k below in
         (class-work, lists .0, lists .1, begins .0, begins .1)
-
--- one CTB more is classified
-pub next-classified : (l : Layout) (luma : List ℕ) (k : ℕ) {map₀ map done : List ℕ}
-    → Paint map₀ (beforeCtb l (classPlane l) k) (classAt l luma) map
-    → done ≡ painted map (ofCtb l (classPlane l) k) (classAt l luma) → Paint map₀ (beforeCtb l (classPlane l) (k + 1)) (classAt l luma) done
-next-classified l luma k P e =
-    paint-call (ofCtb l (classPlane l) k) (classAt l luma) P e (λ i h t. refl) (λ i h. next-ctb l (classPlane l) k i)
