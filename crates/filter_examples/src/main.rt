@@ -3,21 +3,7 @@
 mod class_maps;
 mod filtered;
 
-use example_pictures::layout::SLICE_MAP;
-use example_pictures::layout::SUBPIC_ACROSS;
-use example_pictures::layout::SUBPIC_MAP;
-use example_pictures::layout::TILES;
-use example_pictures::layout::VIRTUAL_COLUMNS;
-use example_pictures::layout::VIRTUAL_ROWS;
-
 fn main() {
-    filtered::show(
-        &VIRTUAL_COLUMNS,
-        &VIRTUAL_ROWS,
-        &TILES,
-        &SLICE_MAP,
-        &SUBPIC_MAP,
-        &SUBPIC_ACROSS,
-    );
+    filtered::show();
     class_maps::show();
 }

@@ -1,8 +1,9 @@
-// Runs paper 01's examples of judging and of the isolation test, an input for each number of its table, and the causes at the sides of a
-// few samples.
+// Runs paper 01's examples of judging and of the isolation test, an input for each number of its table and for what shares a number, and the
+// causes at the sides of a few samples.
 
 mod causes;
 mod damaged;
+mod rows;
 
 use alf::fault_number;
 use alf::isolated;
@@ -113,6 +114,8 @@ fn main() {
         b"the number answered where this cause alone is broken, and where all from it to 13 are\n",
     );
     damaged::show_all();
+    print(b"the number answered where this alone is broken, 0 where it is sound\n");
+    rows::show_rows();
     print(b"the causes at a sample's top, bottom, left and right\n");
     causes::show_causes();
 }

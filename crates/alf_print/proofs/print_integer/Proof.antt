@@ -54,12 +54,9 @@ print-integer-spec =
     tie.close
     (tie.spec
     cast-wide
-    (λ c. search needs)
-    (λ c κs. search needs)
+    (λ c. search needs) (λ c κs. search needs)
     sub-print-decimal
     cast-print-decimal
     (λ c κs. search needs)
     cast-print-decimal-2
-    (λ c κs. search needs)
-    (λ c. search needs)
-    (λ c. search needs))
+    (λ c κs. search needs) (λ c. search needs) (λ c. search needs))

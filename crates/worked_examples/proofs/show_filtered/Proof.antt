@@ -20,6 +20,4 @@ show-filtered-spec =
     (λ c. let f = c .fits .c in simp (words, f) (widened f))
     (λ c κs. simp (words, c .fits .c) (omega arith, omega arith, c .pre, omega arith, omega arith))
     (λ c κs. rw (result c) (omega (arith, abs-tap 10 (pos 64) (c .before .args .c) (omega arith) (c .before .pre .small) 14 10)))
-    (λ c. search needs)
-    (λ c κs. search needs)
-    (λ c. search needs))
+    (λ c. search needs) (λ c κs. search needs) (λ c. search needs))

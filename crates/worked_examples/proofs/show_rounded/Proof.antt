@@ -10,5 +10,4 @@ show-rounded-spec =
     tie.close
     (tie.spec
     (λ c κs. simp (words, c .fits .sum) (omega arith))
-    (λ c κs. search needs)
-    (λ c. search needs))
+    (λ c κs. search needs) (λ c. search needs))

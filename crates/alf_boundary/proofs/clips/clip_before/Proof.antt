@@ -11,11 +11,9 @@ unfolding clip
 clip-before-spec =
     tie.close
     (tie.spec
-    (λ c κs. search needs)
-    (λ c κs. search needs)
+    (λ c κs. search needs) (λ c κs. search needs)
     (λ c κs. let s = c .before .before .before in (s .pre .0, s .pre .1, s .pre .2, omega arith, s .pre .4))
-    (λ c κs. search needs)
-    (λ c κs. search needs)
+    (λ c κs. search needs) (λ c κs. search needs)
     (λ c size ratio sides e.
     let s = c .before .before .before .before .before .before in
     let by-line = c .before .before .before .before .line-clip-before .ensures size (s .args .boundaries .now) ratio in

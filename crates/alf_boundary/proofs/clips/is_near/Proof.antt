@@ -8,7 +8,6 @@ pub is-near-spec : {M : Type 1} → statement M
 is-near-spec =
     tie.close
     (tie.spec
-    (λ c. search needs)
-    (λ c. search needs)
+    (λ c. search needs) (λ c. search needs)
     (λ c. rw (c .if1 .taken, distance-le))
     (λ c. rw (c .if1 .left, distance-le)))

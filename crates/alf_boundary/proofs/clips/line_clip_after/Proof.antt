@@ -18,6 +18,5 @@ line-clip-after-spec =
     (tie.spec
     (λ c. search needs)
     (λ c. omega (arith, low c))
-    (λ c. search needs)
-    (λ c κs. search needs)
+    (λ c. search needs) (λ c κs. search needs)
     (λ c size boundaries ratio. let s = c .before in rw (distance-le, ← s .pre .4) (c .only-if .ensures)))

@@ -7,7 +7,6 @@ pub or-else-spec : {M : Type 1} → statement M
 or-else-spec =
     tie.close
     (tie.spec
-    (λ c. search needs)
-    (λ c. search needs)
+    (λ c. search needs) (λ c. search needs)
     (λ c. rw (c .before .first .given .1))
     (λ c. rw (c .enum-told .given .1)))

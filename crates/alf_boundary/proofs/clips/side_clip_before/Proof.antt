@@ -16,8 +16,7 @@ side-clip-before-spec =
     tie.close
     (tie.spec
     (λ c. low c)
-    (λ c κs. search needs)
-    (λ c κs. search needs)
+    (λ c κs. search needs) (λ c κs. search needs)
     (λ c size boundaries line ratio sides e.
     let s = c .before .before in
     rw (e, ← c .before .disables .ensures, ← in-ctb _ _ _ (s .pre .4), ← s .pre .4) (c .only-if .ensures)))

@@ -10,8 +10,7 @@ pub neighbours-along-spec : {M : Type 1} → statement M
 neighbours-along-spec =
     tie.close
     (tie.spec
-    (λ c. search needs)
-    (λ c κs. search needs)
+    (λ c. search needs) (λ c κs. search needs)
     (λ c.
     let s = c .before in
     λ i. record {

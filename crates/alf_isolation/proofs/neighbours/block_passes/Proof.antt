@@ -11,11 +11,8 @@ unfolding blockTest
 block-passes-spec =
     tie.close
     (tie.spec
-    (λ c. search needs)
-    (λ c. search needs)
-    (λ c. search needs)
+    (λ c. search needs) (λ c. search needs) (λ c. search needs)
     (λ c. simp (ne-eqb _ _ (c .if1 .taken)))
-    (λ c κs. search needs)
-    (λ c. search needs)
+    (λ c κs. search needs) (λ c. search needs)
     (λ c κs. search block-in)
     (λ c. simp (eq-eqb _ _ (c .before .before .if1 .left), ← c .before .block-sides .ensures) (c .neighbours-inside .ensures)))

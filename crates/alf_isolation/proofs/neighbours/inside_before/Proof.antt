@@ -8,6 +8,5 @@ inside-before-spec =
     tie.close
     (tie.spec
     (λ c. c .before .pre .1 (c .if1 .left))
-    (λ c. search needs)
-    (λ c. search needs)
+    (λ c. search needs) (λ c. search needs)
     (λ c. simp (c .before .if1 .left)))

@@ -24,11 +24,7 @@ pub neighbours-inside-spec : {M : Type 1} → statement M
 neighbours-inside-spec =
     tie.close
     (tie.spec
-    (λ c κs. search needs)
-    (λ c κs. search needs)
-    (λ c κs. search needs)
-    (λ c κs. search needs)
-    (λ c. search needs)
+    (λ c κs. search needs) (λ c κs. search needs) (λ c κs. search needs) (λ c κs. search needs) (λ c. search needs)
     (λ c κs. (search needs, search upper-left))
     (λ c. search needs)
     (λ c κs. search lower-left)

@@ -19,11 +19,5 @@ run-passes-spec =
     (tie.spec
     Inv-loop
     μ-loop
-    (λ c. search scans)
-    (λ c. search needs)
-    (λ c κs. search needs)
-    (λ c. search scans)
-    (λ c. search needs)
-    (λ c. search needs)
-    (λ c. search scans)
-    (λ c. search scans))
+    (λ c. search scans) (λ c. search needs) (λ c κs. search needs) (λ c. search scans) (λ c. search needs) (λ c. search needs)
+    (λ c. search scans) (λ c. search scans))

@@ -16,8 +16,7 @@ pub address-passes-spec : {M : Type 1} → statement M
 address-passes-spec =
     tie.close
     (tie.spec
-    (λ c. search needs)
-    (λ c. search needs)
+    (λ c. search needs) (λ c. search needs)
     (λ c κs.
     let s : tie.Start = search needs in
     in-grid (layout s) _ (s .pre .2) _ (s .pre .0) _ (s .pre .1))

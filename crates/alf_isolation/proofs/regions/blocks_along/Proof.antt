@@ -12,5 +12,4 @@ blocks-along-spec =
     (tie.spec
     (λ c. omega (arith, first-block (c .args .size) (c .args .ctb) (c .args .q) (c .pre .0) (c .pre .1)))
     (λ c. first-block (c .args .size) (c .args .ctb) (c .args .q) (c .pre .0) (c .pre .1))
-    (λ c. omega arith)
-    (λ c. omega arith))
+    (λ c. omega arith) (λ c. omega arith))

@@ -28,13 +28,10 @@ ctb-passes-spec =
     (λ c.
     let s : tie.Start Inv-loop μ-loop = search needs in
     omega (arith, first-block (s .args .picture .height) (s .args .grid .ctb) (s .args .ctb .row) (s .pre .0 .ctb8) (s .pre .2)))
-    (λ c κs. search needs)
-    (λ c κs. search needs)
+    (λ c κs. search needs) (λ c κs. search needs)
     (λ c. (search scans, search blocks-within, search blocks-within))
-    (λ c. search needs)
-    (λ c κs. search needs)
+    (λ c. search needs) (λ c κs. search needs)
     (λ c. search (ctb-test, scan-stop))
-    (λ c. search needs)
-    (λ c. search needs)
+    (λ c. search needs) (λ c. search needs)
     (λ c. (search scans, search needs, search needs))
     (λ c. search (ctb-test, scan-done)))

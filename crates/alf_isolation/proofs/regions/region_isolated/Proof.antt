@@ -41,7 +41,6 @@ region-isolated-spec =
     (λ c. (search scans, few-ctbs (c .before .grid .ensures)))
     (λ c κs. search needs)
     (λ c. search (isolated-test, scan-stop))
-    (λ c. search needs)
-    (λ c. search needs)
+    (λ c. search needs) (λ c. search needs)
     (λ c. (search scans, search needs))
     (λ c. search (isolated-test, scan-done)))

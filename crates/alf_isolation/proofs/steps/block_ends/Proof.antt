@@ -7,12 +7,7 @@ pub block-ends-spec : {M : Type 1} → statement M
 block-ends-spec =
     tie.close
     (tie.spec
-    (λ c. search needs)
-    (λ c. search needs)
-    (λ c κs. search needs)
-    (λ c κs. search needs)
-    (λ c. search needs)
-    (λ c. search needs)
+    (λ c. search needs) (λ c. search needs) (λ c κs. search needs) (λ c κs. search needs) (λ c. search needs) (λ c. search needs)
     (λ c.
     let before : tie.After-step-is-open = search needs in
     let after : tie.After-step-is-open2 = search needs in

@@ -9,11 +9,7 @@ unfolding rowSides
 row-sides-spec =
     tie.close
     (tie.spec
-    (λ c κs. search needs)
-    (λ c κs. search needs)
-    (λ c κs. search needs)
-    (λ c κs. search needs)
-    (λ c κs. search needs)
+    (λ c κs. search needs) (λ c κs. search needs) (λ c κs. search needs) (λ c κs. search needs) (λ c κs. search needs)
     (λ c.
     let top : tie.After-disables = search needs in
     let bottom : tie.After-disables2 = search needs in

@@ -9,6 +9,5 @@ unfolding stepOpen
 step-is-open-spec =
     tie.close
     (tie.spec
-    (λ c κs. search needs)
-    (λ c. search needs)
+    (λ c κs. search needs) (λ c. search needs)
     (λ c. cc))

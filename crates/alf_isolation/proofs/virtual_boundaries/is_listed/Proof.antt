@@ -20,11 +20,9 @@ is-listed-spec =
     Inv-loop
     μ-loop
     (λ c. unmet-none _ _)
-    (λ c. search needs)
-    (λ c. search needs)
+    (λ c. search needs) (λ c. search needs)
     (λ c. omega (arith, c .shared-slice-known .given (c .before .before .loop .i)))
     (λ c. search unmet-found)
-    (λ c. search needs)
-    (λ c. search needs)
+    (λ c. search needs) (λ c. search needs)
     (λ c. search unmet-more)
     (λ c. search unmet-done))

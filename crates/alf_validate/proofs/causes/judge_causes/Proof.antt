@@ -11,9 +11,7 @@ unfolding causesFault
 judge-causes-spec =
     tie.close
     (tie.spec
-    (λ c κs. search needs)
-    (λ c. search needs)
-    (λ c. search needs)
+    (λ c κs. search needs) (λ c. search needs) (λ c. search needs)
     (λ c.
     let called = c .before .before in
     layout-leaves _ _ _ _ _ refl _ _ (called .layout-fault .ensures) (c .enum-told2 .given .1))

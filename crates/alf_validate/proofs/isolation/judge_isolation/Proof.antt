@@ -12,10 +12,7 @@ unfolding isolationFault
 judge-isolation-spec =
     tie.close
     (tie.spec
-    (λ c κs. search needs)
-    (λ c κs. search needs)
-    (λ c. search needs)
-    (λ c. search needs)
+    (λ c κs. search needs) (λ c κs. search needs) (λ c. search needs) (λ c. search needs)
     (λ c.
     let called = c .before .before in
     layout-leaves _ _ _ _ _ (lengths-same _ true (called .before .region-length-valid .ensures _ refl)) _ _

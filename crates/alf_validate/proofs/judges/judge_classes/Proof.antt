@@ -13,11 +13,7 @@ unfolding componentValid fault planeOf
 judge-classes-spec =
     tie.close
     (tie.spec
-    (λ c κs. search needs)
-    (λ c κs. search needs)
-    (λ c κs. search needs)
-    (λ c. search needs)
-    (λ c. search needs)
+    (λ c κs. search needs) (λ c κs. search needs) (λ c κs. search needs) (λ c. search needs) (λ c. search needs)
     (λ c.
     let j = c .before .before in
     let same = classes-lengths _ _ _ (j .before .before .plane-fits .ensures) (j .before .plane-fits2 .ensures) in

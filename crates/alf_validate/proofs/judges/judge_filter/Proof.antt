@@ -8,10 +8,7 @@ pub judge-filter-spec : {M : Type 1} → statement M
 judge-filter-spec =
     tie.close
     (tie.spec
-    (λ c κs. search needs)
-    (λ c κs. search needs)
-    (λ c. search needs)
-    (λ c. search needs)
+    (λ c κs. search needs) (λ c κs. search needs) (λ c. search needs) (λ c. search needs)
     (λ c n.
     let j = c .before .before in
     filter-rejects _ _ _ _ _ _ _ (j .before .filter-tables-fit .ensures) _ (j .layout-fault .ensures) _ _ _ _ _ _ (c .enum-told2 .given .1))

@@ -21,10 +21,7 @@ bytes-below-spec =
     (tie.spec
     Inv-loop
     μ-loop
-    (λ c. search scans)
-    (λ c. search needs)
+    (λ c. search scans) (λ c. search needs)
     (λ c. omega (arith, c .shared-slice-known .given (c .before .before .loop .i)))
-    (λ c. search needs)
-    (λ c. search needs)
-    (λ c. search scans)
+    (λ c. search needs) (λ c. search needs) (λ c. search scans)
     (λ c. every-done 0 _ _ (c .before .loop .inv) (c .loop-test .left)))

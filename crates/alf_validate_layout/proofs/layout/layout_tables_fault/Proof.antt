@@ -13,8 +13,7 @@ unfolding layoutTablesFault
 layout-tables-fault-spec =
     tie.close
     (tie.spec
-    (λ c κs. search needs)
-    (λ c κs. search needs)
+    (λ c κs. search needs) (λ c κs. search needs)
     (λ c. search (stops, and-same, c .before .layout-lengths-valid .ensures))
     (λ c κs. map-lengths (c .before .before .grid .ensures) _ _ _ _ _ _ _ (c .before .layout-lengths-valid .ensures) (c .if1 .left))
     (λ c. search (goes, and-same, c .before .before .layout-lengths-valid .ensures)))

@@ -8,7 +8,6 @@ pub layout-lengths-valid-spec : {M : Type 1} → statement M
 layout-lengths-valid-spec =
     tie.close
     (tie.spec
-    (λ c. search needs)
-    (λ c. search needs)
+    (λ c. search needs) (λ c. search needs)
     (λ c. record { fits = total-fits (c .before .before .pre) })
     (λ c l e. lengths-valid l _ _ (c .before .before .before .before .pre) e _ _ _ _ _))

@@ -8,10 +8,7 @@ pub slices-valid-spec : {M : Type 1} → statement M
 slices-valid-spec =
     tie.close
     (tie.spec
-    (λ c κs. search needs)
-    (λ c. search needs)
-    (λ c. search needs)
-    (λ c κs. search needs)
+    (λ c κs. search needs) (λ c. search needs) (λ c. search needs) (λ c κs. search needs)
     (λ c l e u.
     let s = c .before .before .before in
     slices-valid l _ _ (s .before .before .pre .0) e _ u (s .bytes-below .ensures) (c .corners-valid .ensures)))

@@ -8,11 +8,7 @@ pub subpictures-valid-spec : {M : Type 1} → statement M
 subpictures-valid-spec =
     tie.close
     (tie.spec
-    (λ c κs. search needs)
-    (λ c κs. search needs)
-    (λ c. search needs)
-    (λ c. search needs)
-    (λ c κs. search needs)
+    (λ c κs. search needs) (λ c κs. search needs) (λ c. search needs) (λ c. search needs) (λ c κs. search needs)
     (λ c l e u v.
     let s = c .before .before .before in
     let h = s .before .before .before .before .pre .0 in

@@ -9,6 +9,5 @@ unfolding pictureSizeValid
 picture-size-valid-spec =
     tie.close
     (tie.spec
-    (λ c κs. search needs)
-    (λ c κs. search needs)
+    (λ c κs. search needs) (λ c κs. search needs)
     (λ c. rw (c .before .size-valid .ensures, c .size-valid2 .ensures)))

@@ -12,5 +12,4 @@ starts-at-zero-spec =
     tie.close
     (tie.spec
     (λ c. sym (eq-eqb _ 0 (List·getD-eq-default (c .before .args .list .now) 0 {n = 0} (omega arith))))
-    (λ c. search needs)
-    (λ c. search needs))
+    (λ c. search needs) (λ c. search needs))

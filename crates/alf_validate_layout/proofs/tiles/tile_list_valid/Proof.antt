@@ -9,6 +9,5 @@ unfolding tileListValid
 tile-list-valid-spec =
     tie.close
     (tie.spec
-    (λ c κs. search needs)
-    (λ c κs. search needs)
+    (λ c κs. search needs) (λ c κs. search needs)
     (λ c. rw (c .before .starts-at-zero .ensures, c .each-follows .ensures)))

@@ -9,6 +9,5 @@ unfolding tilesValid
 tiles-valid-spec =
     tie.close
     (tie.spec
-    (λ c κs. search needs)
-    (λ c κs. search needs)
+    (λ c κs. search needs) (λ c κs. search needs)
     (λ c l u v. rw (u, v, c .before .tile-list-valid .ensures, c .tile-list-valid2 .ensures)))

@@ -9,8 +9,7 @@ pub virtual-boundaries-valid-spec : {M : Type 1} → statement M
 virtual-boundaries-valid-spec =
     tie.close
     (tie.spec
-    (λ c κs. search needs)
-    (λ c κs. search needs)
+    (λ c κs. search needs) (λ c κs. search needs)
     (λ c l e u v.
     let s = c .before .before .before .before in
     virtual-valid l _ _ (s .pre) e _ _ u v (c .before .virtual-list-valid .ensures) (c .virtual-list-valid2 .ensures)))

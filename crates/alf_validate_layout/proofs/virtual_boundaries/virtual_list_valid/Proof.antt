@@ -11,6 +11,5 @@ virtual-list-valid-spec =
     tie.close
     (tie.spec
     (λ c. rw (lt-leb _ 3 (c .if1 .taken)))
-    (λ c κs. search needs)
-    (λ c κs. search needs)
+    (λ c κs. search needs) (λ c κs. search needs)
     (λ c. rw (le-leb _ 3 (c .before .before .if1 .left), c .before .each-position-valid .ensures, c .each-apart .ensures)))

@@ -20,10 +20,5 @@ samples-below-spec =
     (tie.spec
     Inv-loop
     μ-loop
-    (λ c. search scans)
-    (λ c. search needs)
-    (λ c. search needs)
-    (λ c. search needs)
-    (λ c. search needs)
-    (λ c. search scans)
+    (λ c. search scans) (λ c. search needs) (λ c. search needs) (λ c. search needs) (λ c. search needs) (λ c. search scans)
     (λ c. every-done 0 _ _ (c .before .loop .inv) (c .loop-test .left)))

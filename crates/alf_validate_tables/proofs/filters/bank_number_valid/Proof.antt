@@ -10,9 +10,7 @@ unfolding bankNumberValid
 bank-number-valid-spec =
     tie.close
     (tie.spec
-    (λ c κs. search needs)
-    (λ c κs. search needs)
-    (λ c κs. search needs)
+    (λ c κs. search needs) (λ c κs. search needs) (λ c κs. search needs)
     (λ c.
     let t = c .before .before in
     rw (← t .is-clip .ensures, c .before .if1 .taken) (rw (toZ-ofZ (t .before .fits .number)) at (c .clip-valid .ensures)))

@@ -7,6 +7,5 @@ pub fixed-valid-spec : {M : Type 1} → statement M
 fixed-valid-spec =
     tie.close
     (tie.spec
-    (λ c κs. search needs)
-    (λ c κs. search needs)
+    (λ c κs. search needs) (λ c κs. search needs)
     (λ c. rw (c .before .coefficients-valid .ensures, c .bytes-below .ensures)))

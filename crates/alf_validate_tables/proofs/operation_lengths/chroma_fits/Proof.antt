@@ -10,7 +10,5 @@ unfolding planeOf
 chroma-fits-spec =
     tie.close
     (tie.spec
-    (λ c κs. search needs)
-    (λ c κs. search needs)
-    (λ c κs. search needs)
+    (λ c κs. search needs) (λ c κs. search needs) (λ c κs. search needs)
     (λ c l e. c .plane-fits .ensures ∙ rw (e, c .before .before .sub-width .ensures .0, c .before .sub-height .ensures .0)))

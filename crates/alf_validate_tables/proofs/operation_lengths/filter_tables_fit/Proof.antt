@@ -9,8 +9,5 @@ unfolding filterLengthsValid
 filter-tables-fit-spec =
     tie.close
     (tie.spec
-    (λ c. search needs)
-    (λ c. search needs)
-    (λ c. search needs)
-    (λ c κs. search needs)
+    (λ c. search needs) (λ c. search needs) (λ c. search needs) (λ c κs. search needs)
     (λ c full. rw (c .ctb-params-fit .ensures, full)))

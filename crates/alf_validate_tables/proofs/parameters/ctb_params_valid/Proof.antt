@@ -21,9 +21,4 @@ ctb-params-valid-spec =
     (tie.spec
     Inv-loop
     μ-loop
-    (λ c. search scans)
-    (λ c κs. search needs)
-    (λ c. search needs)
-    (λ c. search needs)
-    (λ c. search scans)
-    (λ c. search scans))
+    (λ c. search scans) (λ c κs. search needs) (λ c. search needs) (λ c. search needs) (λ c. search scans) (λ c. search scans))

@@ -11,8 +11,7 @@ unfolding ctbParamsValidAt
 ctb-params-valid-at-spec =
     tie.close
     (tie.spec
-    (λ c κs. search needs)
-    (λ c κs. search needs)
+    (λ c κs. search needs) (λ c κs. search needs)
     (λ c.
     let f = c .before .before .before in
     let a = f .before .before .before .before .args in

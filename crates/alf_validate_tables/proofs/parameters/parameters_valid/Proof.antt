@@ -9,8 +9,7 @@ unfolding parametersValid sliceParamsValid
 parameters-valid-spec =
     tie.close
     (tie.spec
-    (λ c κs. search needs)
-    (λ c κs. search needs)
+    (λ c κs. search needs) (λ c κs. search needs)
     (λ c.
     let s = c .before .before .before .before .before in
     rw (c .before .slice-params-valid .ensures, c .ctb-params-valid .ensures, s .pre .1)))

@@ -10,6 +10,5 @@ unfolding addressesValid
 addresses-valid-spec =
     tie.close
     (tie.spec
-    (λ c. search needs)
-    (λ c κs. search needs)
+    (λ c. search needs) (λ c κs. search needs)
     (λ c l e. c .addresses-below .ensures ∙ rw e))

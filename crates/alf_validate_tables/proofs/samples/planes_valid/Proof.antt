@@ -7,6 +7,5 @@ pub planes-valid-spec : {M : Type 1} → statement M
 planes-valid-spec =
     tie.close
     (tie.spec
-    (λ c κs. search needs)
-    (λ c κs. search needs)
+    (λ c κs. search needs) (λ c κs. search needs)
     (λ c. rw (c .before .samples-valid .ensures, c .samples-valid2 .ensures)))

@@ -104,32 +104,23 @@ show-corner-spec =
     tie.close
     (tie.spec
     (λ c κs. (sizes, log2))
-    (λ c. search needs)
-    (λ c. search needs)
-    (λ c. search needs)
-    (λ c. search needs)
-    (λ c. search needs)
+    (λ c. search needs) (λ c. search needs) (λ c. search needs) (λ c. search needs) (λ c. search needs)
     (λ c κs.
     let g = c .before .before .before .before .before .grid in
     let wide = columns (g .result) (g .ensures) in
     let high = rows (g .result) (g .ensures) in
     (g .ensures, tables (g .result) (g .ensures), omega arith, omega arith))
-    (λ c. search needs)
-    (λ c. search needs)
+    (λ c. search needs) (λ c. search needs)
     (λ c κs.
     let g : tie.After-grid = search needs in
     let h = g .grid .ensures in
     (h, omega arith, omega arith, omega arith, omega arith, omega (arith, side _ h)))
-    (λ c. search needs)
-    (λ c. search needs)
+    (λ c. search needs) (λ c. search needs)
     (λ c κs.
     let g : tie.After-grid = search needs in
     let h = g .grid .ensures in
     (h, omega arith, omega arith, omega arith, omega arith, omega arith, omega (arith, side _ h)))
-    (λ c. search needs)
-    (λ c κs. search needs)
-    (λ c. search needs)
-    (λ c. search needs)
+    (λ c. search needs) (λ c κs. search needs) (λ c. search needs) (λ c. search needs)
     (λ c κs.
     let stacked = c .before .before .before .before .before in
     let across = last-columns (stacked .before .before) in
@@ -142,12 +133,7 @@ show-corner-spec =
       mul-le-mul (pitch-small down) (pitch-small across),
     ))
     (λ c κs. omega (arith, last-columns (c .before .before .before .before .before .before .before .before .before) .is .filled))
-    (λ c. search needs)
-    (λ c. search needs)
-    (λ c κs. search needs)
-    (λ c. search needs)
-    (λ c. search needs)
-    (λ c. search needs)
+    (λ c. search needs) (λ c. search needs) (λ c κs. search needs) (λ c. search needs) (λ c. search needs) (λ c. search needs)
     (λ c.
     let copied = c .before .before in
     omega (
@@ -156,5 +142,4 @@ show-corner-spec =
       pitch-small
           (last-columns (copied .before .before .before .before .before .before .before .before .before .before)),
     ))
-    (λ c κs. search needs)
-    (λ c. search needs))
+    (λ c κs. search needs) (λ c. search needs))
