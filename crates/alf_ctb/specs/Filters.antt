@@ -6,7 +6,7 @@ use lib.IntN.{ℤ}
 use Rattle.alf_spec.specs.declared.Ctb.{Ctb}
 use Rattle.alf_spec.specs.declared.Picture.{Picture}
 use Rattle.alf_spec.specs.Input.{Layout, Operation, luma, chroma, crossComponent, Input}
-use Rattle.alf_spec.specs.Geometry.{Plane, subWidth, subHeight, planeOf as layoutPlane}
+use Rattle.alf_spec.specs.Geometry.{Plane, subWidth, subHeight, planeOf}
 use Rattle.alf_spec.specs.Luma.{lumaSample}
 use Rattle.alf_spec.specs.Chroma.{chromaSample}
 use Rattle.alf_spec.specs.CrossComponent.{crossSample}
@@ -42,13 +42,13 @@ walkLine (CrossComponent component) = 4
 
 -- the luma plane with that line: a CTB is filtered by its pieces
 abbrev pub walkPlane : Filter → Layout → Plane
-walkPlane f l = layoutPlane l 1 1 (walkLine f)
+walkPlane f l = planeOf l 1 1 (walkLine f)
 
 -- the plane that it filters, of luma and chroma
-abbrev pub planeOf : Filter → List ℕ → List ℕ → List ℕ
-planeOf Luma lumaSamples chromaSamples = lumaSamples
-planeOf (Chroma component) lumaSamples chromaSamples = chromaSamples
-planeOf (CrossComponent component) lumaSamples chromaSamples = chromaSamples
+abbrev pub planeFiltered : Filter → List ℕ → List ℕ → List ℕ
+planeFiltered Luma lumaSamples chromaSamples = lumaSamples
+planeFiltered (Chroma component) lumaSamples chromaSamples = chromaSamples
+planeFiltered (CrossComponent component) lumaSamples chromaSamples = chromaSamples
 
 -- a CTB's flag or index is on
 abbrev pub isOn : Filter → Input → Ctb → Bool

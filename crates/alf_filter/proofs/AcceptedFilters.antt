@@ -1,7 +1,7 @@
--- What acceptance says of a filter's input, and that the list has no part in it but its addresses. Assumes nothing.
+-- What acceptance says of a filter's input: its plane, its tables and its list. Assumes nothing.
 use mathlib.Core.Path.{_≡_, refl, sym, ap, _∙_}
-use mathlib.Core.Bool.{Bool, true, _&&_}
-use mathlib.Core.List.{List, []}
+use mathlib.Core.Bool.{true, _&&_}
+use mathlib.Core.List.{List}
 use Prim.Native.Nat.{ℕ, _*_, _/_, _<_}
 use native.Mathlib.Nat.{div-one}
 use lib.Dec.{ltb}
@@ -11,27 +11,25 @@ use borrow.Author.Tests.{ltb-true}
 use Rattle.alf_spec.specs.declared.Ctb.{Ctb}
 use Rattle.alf_spec.specs.declared.Grid.{Grid}
 use Rattle.alf_spec.specs.declared.Picture.{Picture}
-use Rattle.alf_spec.specs.Lists.{implies, everyFrom, painted}
-use Rattle.alf_spec.specs.Input.{Layout, given, Input, inputOf}
+use Rattle.alf_spec.specs.Lists.{implies, painted}
+use Rattle.alf_spec.specs.Input.{Layout, given, Input}
 use Rattle.alf_spec.specs.Geometry.{subHeight, lineRows, planeOf, planeLength, ctbTotal, address}
-use Rattle.alf_spec.specs.Parameters.{ctbParam, sliceParam}
 use Rattle.alf_spec.specs.Process.{isFiltered, atIndex, filteredPlane, result, outputPlane}
-use Rattle.alf_spec.specs.Faults.{componentValid, filterLengthsValid, fixedLengthsValid, lengthsValid, sliceParamsValid, ctbRangesValid}
-use Rattle.alf_spec.specs.Faults.{ctbChromaZero, ctbParamsValidAt, parametersValid, bankValid, fixedValid, samplesValid, addressesValid}
-use Rattle.alf_spec.specs.Faults.{unless, layoutFault, tablesFault, fault}
+use Rattle.alf_spec.specs.Faults.{componentValid, parametersValid, bankValid, fixedValid, samplesValid, addressesValid, tablesFault, fault}
 use Rattle.alf_spec.proofs.Tests.{implied, every-at}
-use Rattle.alf_spec.proofs.Accepted.{AcceptedLayout, accepted, passed, component-of, luma-length, chroma-length, luma-samples}
+use Rattle.alf_spec.proofs.Accepted.{AcceptedLayout, accepted, passed, lists-valid, component-of, luma-length, chroma-length, luma-samples}
 use Rattle.alf_spec.proofs.Accepted.{chroma-samples, output-length}
 use Rattle.alf_math.specs.Grids.{GridOf}
-use Rattle.alf_math.proofs.Grids.{sample-bound}
+use Rattle.alf_math.proofs.Grids.{sample-bound, grid-total}
 use Rattle.alf_luma.specs.Filters.{Places}
-use Rattle.alf_params.proofs.AcceptedTables.{accepted-fixed}
+use Rattle.alf_params.specs.Tables.{TablesGiven}
+use Rattle.alf_params.proofs.AcceptedTables.{accepted-tables, accepted-fixed}
 use Rattle.alf_params.proofs.TableNumbers.{own-tables, index-on}
 use Rattle.alf_ctb.specs.declared.Filter.{Filter}
 use Rattle.alf_ctb.specs.declared.Filter.the-variants.{Luma, Chroma, CrossComponent}
-use Rattle.alf_ctb.specs.Filters.{operationOf, columnRatio, rowRatio, planeOf as filterPlane, isOn, sampleOf}
+use Rattle.alf_ctb.specs.Filters.{operationOf, columnRatio, rowRatio, planeFiltered, isOn, sampleOf}
 use Rattle.alf_ctb.specs.Tables.{ComponentOf, FixedGiven, FixedSame, Switched}
-use Rattle.alf_ctb.specs.Work.{Given}
+use Rattle.alf_filter.specs.FilterTables.{FilterTables, TablesAccepted, inputTables, TablesIn}
 
 -- ---- the plane that a filter writes
 
@@ -46,6 +44,13 @@ pub output-plane : (f : Filter) (l : Layout)
 output-plane Luma l = refl
 output-plane (Chroma component) l = refl
 output-plane (CrossComponent component) l = refl
+
+-- a length that is its size, by the picture that code has
+pub plane-size : (f : Filter) (l : Layout) {p : Picture} → l .picture ≡ p → {n : ℕ}
+    → n ≡ (p .width / columnRatio f p) * (p .height / rowRatio f p) → n ≡ planeLength (outputPlane (operationOf f) l)
+unfolding planeOf
+plane-size f l e h =
+    h ∙ ap (λ (p : Picture). (p .width / columnRatio f p) * (p .height / rowRatio f p)) (sym e) ∙ sym (ap planeLength (output-plane f l))
 
 -- every filter is given the tables
 pub filters-given : (f : Filter) → given (operationOf f) .filters ≡ true
@@ -64,21 +69,6 @@ module _ (f : Filter) (i : Input) (ok : fault (operationOf f) i ≡ 0) where
   unfolding planeOf
   output-size = output-length (operationOf f) i ok ∙ ap planeLength (output-plane f (i .layout))
 
-  pub filter-given : {g : Grid} {places : List ℕ} → GridOf (i .layout .picture) g → Places places
-      → Given f (i .layout .picture) g (i .luma) (i .chroma) places
-  unfolding planeOf
-  filter-given grid order = record {
-    grid = grid;
-    sizes = layout-accepted .sizes;
-    ctbSize = layout-accepted .ctbSize;
-    depth = layout-accepted .bitDepth;
-    lumaLength = λ e. simp div-one at (luma-length (operationOf f) i ok e);
-    chromaLength = chroma-length (operationOf f) i ok;
-    luma = λ e k. sample-bound (i .layout .picture) (layout-accepted .bitDepth) (luma-samples (operationOf f) i ok e k);
-    chroma = λ e k. sample-bound (i .layout .picture) (layout-accepted .bitDepth) (chroma-samples (operationOf f) i ok e k);
-    order = order;
-  }
-
 component-valid : (f : Filter) (p : Picture) → componentValid (operationOf f) p ≡ true → ComponentOf f
 unfolding componentValid
 component-valid Luma p e = tt
@@ -94,22 +84,85 @@ fixed-accepted Luma i ok = accepted-fixed _ i ok refl
 fixed-accepted (Chroma component) i ok = tt
 fixed-accepted (CrossComponent component) i ok = tt
 
-pub fixed-same : (f : Filter) (i : Input) {depth : ℕ} {fixedFilters : List ℤ} {fixedMap : List ℕ} → i .layout .picture .«bit_depth» ≡ depth
-    → i .fixedFilters ≡ fixedFilters → i .fixedMap ≡ fixedMap → FixedSame f i depth fixedFilters fixedMap
-fixed-same Luma i d e m = record { sameDepth = d; sameFilters = e; sameMap = m }
-fixed-same (Chroma component) i d e m = tt
-fixed-same (CrossComponent component) i d e m = tt
-
 -- an index that is on is not 0
 pub switched : (f : Filter) (i : Input) (c : Ctb) {k : ℕ} → address (i .layout) c ≡ k → isOn f i c ≡ true → Switched f (i .ctbParams) k
 switched Luma i c at e = tt
 switched (Chroma component) i c at e = tt
 switched (CrossComponent component) i c at e = index-on (own-tables i c at) component e
 
+-- ---- its tables
+
+-- those of an accepted input have what a filter needs
+pub tables-accepted : (f : Filter) (i : Input) → fault (operationOf f) i ≡ 0 → {g : Grid} {places : List ℕ}
+    → GridOf (i .layout .picture) g → Places places → TablesAccepted f (inputTables i g places)
+unfolding planeOf
+tables-accepted f i ok grid order =
+    let op = operationOf f in
+    let layout = layout-accepted f i ok in
+    let lists = lists-valid (i .layout) (layout .virtualBoundaries) in
+    record {
+      planes = record {
+        grid = grid;
+        sizes = layout .sizes;
+        ctbSize = layout .ctbSize;
+        depth = layout .bitDepth;
+        lumaLength = λ e. simp div-one at (luma-length op i ok e);
+        chromaLength = chroma-length op i ok;
+        luma = λ e k. sample-bound (i .layout .picture) (layout .bitDepth) (luma-samples op i ok e k);
+        chroma = λ e k. sample-bound (i .layout .picture) (layout .bitDepth) (chroma-samples op i ok e k);
+        order = order;
+      };
+      virtualColumns = lists .0;
+      virtualRows = lists .1;
+      component = component-accepted f i ok;
+      ctbs = λ k below. accepted-tables op i ok (filters-given f) k (rw (grid-total (i .layout) _ grid) at below);
+      fixed = fixed-accepted f i ok;
+    }
+
+-- tables that are an input's, table by table
+module _ {f : Filter} {i : Input} {t : FilterTables} (given : TablesIn f i t) where
+  pub same-picture : i .layout .picture ≡ t .picture
+  same-picture = ap (λ (t : FilterTables). t .picture) (given .same)
+
+  pub same-virtual-columns : i .layout .virtualColumns ≡ t .virtualColumns
+  same-virtual-columns = ap (λ (t : FilterTables). t .virtualColumns) (given .same)
+
+  pub same-virtual-rows : i .layout .virtualRows ≡ t .virtualRows
+  same-virtual-rows = ap (λ (t : FilterTables). t .virtualRows) (given .same)
+
+  pub same-luma : i .luma ≡ t .luma
+  same-luma = ap (λ (t : FilterTables). t .luma) (given .same)
+
+  pub same-chroma : i .chroma ≡ t .chroma
+  same-chroma = ap (λ (t : FilterTables). t .chroma) (given .same)
+
+  -- those of a CTB's filter
+  pub same-tables : {c : Ctb} {k : ℕ} → address (i .layout) c ≡ k
+      → TablesGiven i c (t .sliceMap) (t .sliceParams) (t .bank) (t .ctbParams) k
+  same-tables at = record {
+    sameSliceMap = ap (λ (t : FilterTables). t .sliceMap) (given .same);
+    sameSliceParams = ap (λ (t : FilterTables). t .sliceParams) (given .same);
+    sameBank = ap (λ (t : FilterTables). t .bank) (given .same);
+    sameCtbParams = ap (λ (t : FilterTables). t .ctbParams) (given .same);
+    atAddress = at;
+  }
+
+fixed-same : (f : Filter) (i : Input) {depth : ℕ} {fixedFilters : List ℤ} {fixedMap : List ℕ} → i .layout .picture .«bit_depth» ≡ depth
+    → i .fixedFilters ≡ fixedFilters → i .fixedMap ≡ fixedMap → FixedSame f i depth fixedFilters fixedMap
+fixed-same Luma i d e m = record { sameDepth = d; sameFilters = e; sameMap = m }
+fixed-same (Chroma component) i d e m = tt
+fixed-same (CrossComponent component) i d e m = tt
+
+pub same-fixed : {f : Filter} {i : Input} {t : FilterTables} → TablesIn f i t
+    → FixedSame f i (t .picture .«bit_depth») (t .fixedFilters) (t .fixedMap)
+same-fixed {f} {i} given =
+    fixed-same f i (ap (λ (t : FilterTables). t .picture .«bit_depth») (given .same))
+    (ap (λ (t : FilterTables). t .fixedFilters) (given .same)) (ap (λ (t : FilterTables). t .fixedMap) (given .same))
+
 -- ---- what a filter leaves
 
 pub result-is : (f : Filter) (i : Input) → result (operationOf f) i
-    ≡ painted (filterPlane f (i .luma) (i .chroma)) (isFiltered i (outputPlane (operationOf f) (i .layout)) (isOn f i))
+    ≡ painted (planeFiltered f (i .luma) (i .chroma)) (isFiltered i (outputPlane (operationOf f) (i .layout)) (isOn f i))
     (atIndex (outputPlane (operationOf f) (i .layout)) (sampleOf f i))
 unfolding result filteredPlane
 result-is Luma i = refl
@@ -117,7 +170,7 @@ result-is (Chroma component) i = refl
 result-is (CrossComponent component) i = refl
 
 -- its input has the output's length
-pub plane-length : (f : Filter) (i : Input) → fault (operationOf f) i ≡ 0 → length (filterPlane f (i .luma) (i .chroma)) ≡ i .outputLength
+pub plane-length : (f : Filter) (i : Input) → fault (operationOf f) i ≡ 0 → length (planeFiltered f (i .luma) (i .chroma)) ≡ i .outputLength
 plane-length Luma i ok = luma-length _ i ok refl ∙ sym (output-length _ i ok)
 plane-length (Chroma component) i ok = chroma-length _ i ok refl ∙ sym (output-length _ i ok)
 plane-length (CrossComponent component) i ok = chroma-length _ i ok refl ∙ sym (output-length _ i ok)
@@ -141,31 +194,3 @@ pub listed-below : (f : Filter) (i : Input) → fault (operationOf f) i ≡ 0 �
     → getD (i .ctbList) j 0 < ctbTotal (i .layout)
 unfolding addressesValid
 listed-below f i ok j h = ltb-true _ _ (every-at 0 0 (λ _ n. ltb n (ctbTotal (i .layout))) (i .ctbList) (addresses-valid f i ok) j h)
-
-module _ (f : Filter) (l : Layout) (luma chroma sliceParams : List ℕ) (bank : List ℤ) (ctbParams : List ℕ) (fixedFilters : List ℤ)
-    (fixedMap : List ℕ)
-    (n : ℕ) where
-  abbrev withList : List ℕ → Input
-  withList list = inputOf l luma chroma sliceParams bank ctbParams list fixedFilters fixedMap n
-
-  -- all other causes
-  abbrev otherwise : Bool → ℕ
-  otherwise addresses =
-      let op = operationOf f in
-      let i = withList [] in
-      layoutFault l (componentValid op (l .picture)) (lengthsValid op i)
-      (unless (implies (given op .filters) (parametersValid i)) 10
-      (unless (implies (given op .filters) (bankValid i) && implies (given op .fixed) (fixedValid i)) 11
-      (unless (implies (given op .luma) (samplesValid (l .picture) luma)
-      && implies (given op .chroma) (samplesValid (l .picture) chroma)) 12
-      (unless (implies (given op .filters) addresses) 13 0))))
-
-  by-addresses : (list : List ℕ) → fault (operationOf f) (withList list) ≡ otherwise (addressesValid (withList list))
-  unfolding fault tablesFault lengthsValid filterLengthsValid parametersValid sliceParamsValid ctbParamsValidAt ctbRangesValid ctbChromaZero
-      ctbParam sliceParam bankValid fixedValid fixedLengthsValid
-  by-addresses list = refl
-
-  -- an input that is accepted is accepted with no CTB listed, too
-  pub without-list : (list : List ℕ) → fault (operationOf f) (withList list) ≡ 0 → fault (operationOf f) (withList []) ≡ 0
-  unfolding addressesValid everyFrom
-  without-list list ok = by-addresses [] ∙ ap otherwise (sym (addresses-valid f (withList list) ok)) ∙ sym (by-addresses list) ∙ ok

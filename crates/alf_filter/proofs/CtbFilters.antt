@@ -1,10 +1,12 @@
 -- A CTB that is filtered: its rectangle of the filter's plane is the CTB. Assumes nothing.
 use mathlib.Core.Path.{_≡_, sym, subst}
+use mathlib.Core.Bool.{Bool}
 use mathlib.Core.List.{List}
 use Prim.Native.Nat.{ℕ, _+_, _*_, _/_, _%_, min}
 use native.Mathlib.Omega.{arith}
 use lib.ListN.{length}
 use Rattle.alf_spec.specs.declared.Grid.{Grid}
+use Rattle.alf_spec.specs.declared.Picture.{Picture}
 use Rattle.alf_spec.specs.Lists.{painted}
 use Rattle.alf_spec.specs.Input.{Layout}
 use Rattle.alf_spec.specs.Geometry.{Plane, planeOf}
@@ -25,17 +27,33 @@ pub whole-samples : {r : ℕ} → Ratio r → (b : ℕ) → b % 8 ≡ 0 → b / 
 whole-samples whole b h = omega arith
 whole-samples half b h = omega arith
 
-pub ctb-done : (f : Filter) (l : Layout) → AcceptedLayout l → {g : Grid} → GridOf (l .picture) g → (old : List ℕ) {new : List ℕ}
-    → length old ≡ (l .picture .width / columnRatio f (l .picture)) * (l .picture .height / rowRatio f (l .picture)) → (v : ℕ → ℕ) (k : ℕ)
-    → new ≡ painted old (inRect (l .picture .width / columnRatio f (l .picture))
-    (k % g .columns * g .ctb / columnRatio f (l .picture))
-    (min (k % g .columns * g .ctb + g .ctb) (l .picture .width) / columnRatio f (l .picture))
-    (k / g .columns * g .ctb / rowRatio f (l .picture)) (min (k / g .columns * g .ctb + g .ctb) (l .picture .height) / rowRatio f
-    (l .picture))) v
-    → new ≡ painted old (ofCtb l (outputPlane (operationOf f) l) k) v
-unfolding planeOf
-ctb-done f l ok grid old {new} size v k e =
-    let ratios = filter-ratios f (l .picture) in
-    subst (λ (g : Plane). new ≡ painted old (ofCtb l g k) v) (sym (output-plane f l))
-    (ctb-painted l ok (columnRatio f (l .picture)) (rowRatio f (l .picture)) (outputLine f (l .picture)) (whole-samples (ratios .0))
-    (whole-samples (ratios .1)) old size grid v k e)
+-- the rectangle of the CTB at address k, and the plane's size, by the numbers that code has
+abbrev rectangle : Filter → Picture → Grid → ℕ → ℕ → Bool
+rectangle f p g k =
+    inRect (p .width / columnRatio f p) (k % g .columns * g .ctb / columnRatio f p)
+    (min (k % g .columns * g .ctb + g .ctb) (p .width) / columnRatio f p) (k / g .columns * g .ctb / rowRatio f p)
+    (min (k / g .columns * g .ctb + g .ctb) (p .height) / rowRatio f p)
+
+abbrev size : Filter → Picture → ℕ
+size f p = (p .width / columnRatio f p) * (p .height / rowRatio f p)
+
+-- a layout whose picture is p
+module _ (f : Filter) (l : Layout) (ok : AcceptedLayout l) (g : Grid) (old new : List ℕ) (v : ℕ → ℕ) (k : ℕ) where
+  abbrev Done : Picture → Type 0
+  Done p = GridOf p g → length old ≡ size f p → new ≡ painted old (rectangle f p g k) v
+      → new ≡ painted old (ofCtb l (outputPlane (operationOf f) l) k) v
+
+  own-done : Done (l .picture)
+  unfolding planeOf
+  own-done grid e h =
+      let ratios = filter-ratios f (l .picture) in
+      subst (λ (g : Plane). new ≡ painted old (ofCtb l g k) v) (sym (output-plane f l))
+      (ctb-painted l ok (columnRatio f (l .picture)) (rowRatio f (l .picture)) (outputLine f (l .picture)) (whole-samples (ratios .0))
+      (whole-samples (ratios .1)) old e grid v k h)
+
+  pub ctb-done : {p : Picture} → l .picture ≡ p → GridOf p g
+      → length old ≡ (p .width / columnRatio f p) * (p .height / rowRatio f p) → new ≡ painted old (inRect (p .width / columnRatio f p)
+      (k % g .columns * g .ctb / columnRatio f p) (min (k % g .columns * g .ctb + g .ctb) (p .width) / columnRatio f p)
+      (k / g .columns * g .ctb / rowRatio f p) (min (k / g .columns * g .ctb + g .ctb) (p .height) / rowRatio f p)) v
+      → new ≡ painted old (ofCtb l (outputPlane (operationOf f) l) k) v
+  ctb-done e = subst Done e own-done

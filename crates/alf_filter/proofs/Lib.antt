@@ -1,8 +1,7 @@
 -- Laws that the proofs of this crate cite.
-pub mod Listing
+pub mod ListedCtbs
 pub mod AcceptedFilters
 pub mod Copies
 pub mod CtbFilters
 pub mod FilteredCtbs
 pub mod SpreadZeros
-pub mod Marks

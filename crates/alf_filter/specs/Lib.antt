@@ -1,2 +1,3 @@
 -- What the contracts of this crate say beside the definitions of `alf_spec`.
-pub mod Regions
+pub mod FilterTables
+pub mod FilteredCtbs

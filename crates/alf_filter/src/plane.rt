@@ -1,21 +1,20 @@
-// A whole plane: the output is the input, and then each listed CTB whose flag or index is on.
+// A whole plane: what depends on a CTB alone is planned, the output is the input, and then each CTB that is marked is filtered.
 ghost use mathlib.Core.Path.{_≡_};
 ghost use lib.ListN.{length};
-ghost use Rattle.alf_spec.specs.Input.{layoutOf, inputOf};
+ghost use Rattle.alf_spec.specs.Input.{layoutOf, Input, inputOf};
 ghost use Rattle.alf_spec.specs.Faults.{fault};
 ghost use Rattle.alf_spec.specs.Process.{result};
-ghost use Rattle.alf_ctb.specs.Filters.{operationOf, planeOf};
-use crate::addresses::filter_marked;
-use crate::listed::mark_listed;
+ghost use Rattle.alf_ctb.specs.Filters.{operationOf, planeFiltered};
+use crate::ctbs::filter_marked;
+use crate::listed_ctbs::mark_listed;
 use alf_ctb::Filter;
 use alf_luma::PLACES;
 use alf_luma::tap_places;
 use alf_math::grid::grid;
 use alf_pieces::copies::copy_run;
+use alf_sides::CTBS;
+use alf_sides::plan_sides;
 use alf_spec::Picture;
-
-// There are at most 128 by 128 CTBs.
-const CTBS: usize = 16384;
 
 // A plane over another of its size.
 fn copy_plane(plane: &[u16], output: &mut [u16])
@@ -27,8 +26,8 @@ fn copy_plane(plane: &[u16], output: &mut [u16])
 
 // The plane that a filter filters.
 fn copy_input(filter: Filter, luma: &[u16], chroma: &[u16], output: &mut [u16])
-    requires { ⌜ length (planeOf filter (now luma) (now chroma)) ≡ length (now output) ⌝ }
-    ensures { λ _. ⌜ now (output .exit) ≡ planeOf filter (now (luma .entry)) (now (chroma .entry)) ⌝ }
+    requires { ⌜ length (planeFiltered filter (now luma) (now chroma)) ≡ length (now output) ⌝ }
+    ensures { λ _. ⌜ now (output .exit) ≡ planeFiltered filter (now (luma .entry)) (now (chroma .entry)) ⌝ }
 {
     match filter {
         Filter::Luma => copy_plane(luma, output),
@@ -37,7 +36,7 @@ fn copy_input(filter: Filter, luma: &[u16], chroma: &[u16], output: &mut [u16])
     }
 }
 
-// The filtered plane of an accepted input.
+// The filtered plane of an accepted input. What depends on a CTB alone, its sides and whether it is filtered, is planned first.
 pub fn filter_plane(
     filter: Filter,
     picture: Picture,
@@ -58,45 +57,47 @@ pub fn filter_plane(
     chroma: &[u16],
     output: &mut [u16],
 )
-    requires { ⌜ fault (operationOf filter) (inputOf (layoutOf picture (now «virtual_columns») (now «virtual_rows») (now «tile_columns»)
-        (now «tile_rows»)
+    ghost { Input }
+    requires { λ i. ⌜ inputOf (layoutOf picture (now «virtual_columns») (now «virtual_rows») (now «tile_columns») (now «tile_rows»)
         (now «slice_map») (now «subpic_map») (now «subpic_across»)) (now luma) (now chroma) (now «slice_params») (now bank)
-        (now «ctb_params») (now «ctb_list») (now «fixed_filters»)
-        (now «fixed_map») (length (now output))) ≡ 0 ⌝ }
-    ensures { λ _. ⌜ now (output .exit) ≡ result (operationOf filter)
-        (inputOf (layoutOf picture (now («virtual_columns» .entry)) (now («virtual_rows» .entry)) (now («tile_columns» .entry))
-        (now («tile_rows» .entry))
-        (now («slice_map» .entry)) (now («subpic_map» .entry)) (now («subpic_across» .entry))) (now (luma .entry)) (now (chroma .entry))
-        (now («slice_params» .entry)) (now (bank .entry)) (now («ctb_params» .entry)) (now («ctb_list» .entry))
-        (now («fixed_filters» .entry))
-        (now («fixed_map» .entry)) (length (now (output .entry)))) ⌝ }
+        (now «ctb_params») (now «ctb_list») (now «fixed_filters») (now «fixed_map») (length (now output)) ≡ i ⌝ }
+    requires { λ i. ⌜ fault (operationOf filter) i ≡ 0 ⌝ }
+    ensures { λ i _. ⌜ now (output .exit) ≡ result (operationOf filter) i ⌝ }
 {
-    copy_input(filter, luma, chroma, output);
     let grid = grid(picture);
+    let mut sides: [u16; CTBS] = [0; CTBS];
+    plan_sides(
+        picture,
+        grid,
+        tile_columns,
+        tile_rows,
+        slice_map,
+        subpic_map,
+        subpic_across,
+        &mut sides,
+    );
     let mut marks: [u8; CTBS] = [0; CTBS];
-    mark_listed(ctb_list, &mut marks);
+    mark_listed(filter, ctb_params, ctb_list, &mut marks);
     let mut places: [u8; PLACES] = [0; PLACES];
     tap_places(&mut places);
+    copy_input(filter, luma, chroma, output);
     filter_marked(
         filter,
         picture,
         grid,
         virtual_columns,
         virtual_rows,
-        tile_columns,
-        tile_rows,
         slice_map,
-        subpic_map,
-        subpic_across,
         slice_params,
         bank,
         ctb_params,
         fixed_filters,
         fixed_map,
-        &marks,
         luma,
         chroma,
         &places,
+        &sides,
+        &marks,
         output,
     );
 }

@@ -10,4 +10,4 @@ copy-plane-spec =
     (tie.spec
     (λ c κs. search needs)
     (λ c. search needs)
-    (λ c. plane-copied _ _ (c .before .before .before .before .before .before .pre) (c .before .before .copy-run .ensures)))
+    (λ c. let s : tie.Start = search needs in plane-copied _ _ (s .pre) (c .before .before .copy-run .ensures)))

@@ -1,4 +1,4 @@
--- The CTBs in a list, one entry after the other. Assumes nothing.
+-- The CTBs in a list, one entry of the list after the other. Assumes nothing.
 use mathlib.Core.Path.{_≡_, refl, sym, ap, _∙_}
 use mathlib.Core.Bool.{Bool, true, false, _||_}
 use mathlib.Core.List.{List, [], _∷_, _++_}
@@ -10,7 +10,7 @@ use lib.Seq.{take-suc}
 use borrow.Author.Tests.{eqb-true, eq-eqb}
 use Rattle.alf_spec.specs.Lists.{elem}
 use Rattle.alf_spec.proofs.Tests.{same-test}
-use Rattle.alf_filter.specs.Regions.{isListed}
+use Rattle.alf_filter.specs.FilteredCtbs.{isListed}
 
 eqb-swap : (a b : ℕ) → eqb a b ≡ eqb b a
 eqb-swap a b = same-test (eqb a b) (eqb b a) (λ t. eq-eqb b a (sym (eqb-true a b t))) (λ t. eq-eqb a b (sym (eqb-true b a t)))
@@ -32,8 +32,8 @@ pub none-listed : (k : ℕ) → isListed [] k ≡ false
 unfolding isListed elem
 none-listed k = refl
 
--- one entry more
-pub one-listed : (xs : List ℕ) (j : ℕ) → j < length xs → (k : ℕ)
-    → isListed (take (j + 1) xs) k ≡ (isListed (take j xs) k || eqb (getD xs j 0) k)
+-- one entry more, whose address is y
+pub one-listed : (xs : List ℕ) (j : ℕ) → j < length xs → {y : ℕ} → y ≡ getD xs j 0 → (k : ℕ)
+    → isListed (take (j + 1) xs) k ≡ (isListed (take j xs) k || eqb y k)
 unfolding isListed
-one-listed xs j h k = rw (add-one, take-suc xs j 0 h) (elem-last k (take j xs) (getD xs j 0))
+one-listed xs j h e k = rw (e, add-one, take-suc xs j 0 h) (elem-last k (take j xs) (getD xs j 0))
