@@ -22,11 +22,11 @@ use Rattle.alf_lists.proofs.Regions.{run-facts, row-of, row-room}
 use Rattle.alf_chroma.specs.Samples.{pieceSampleFrom}
 use Rattle.alf_chroma.specs.Pieces.{RowsWork, chromaRowsOf, copyChromaAt}
 
--- what Table 46 can say
-abbrev Bounds : ChromaRows → Type 0
+-- what Table 46 can say: the farther row is the second, at most 2 away, and a sum can be shifted so far
+abbrev pub Bounds : ChromaRows → Type 0
 Bounds r = (r .y1 ≤ r .y2) × (r .y2 ≤ 2) × (r .shift < 32)
 
-row-bounds : (line : Bool) (d : ℕ) → Bounds (chromaRows line d)
+pub row-bounds : (line : Bool) (d : ℕ) → Bounds (chromaRows line d)
 unfolding chromaRows
 row-bounds line d = cond-either Bounds (line && _) _ _ (omega arith) (cond-either Bounds (line && _) _ _ (omega arith) (omega arith))
 

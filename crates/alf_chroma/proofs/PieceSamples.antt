@@ -1,6 +1,6 @@
 -- A filtered sample of a piece, from the piece's copy, is that of the picture. Assumes nothing.
 use mathlib.Core.Path.{_≡_, refl, ap, _∙_}
-use mathlib.Core.Bool.{Bool, true, _&&_}
+use mathlib.Core.Bool.{true}
 use mathlib.Core.List.{List, [], _∷_, map}
 use Prim.Native.Nat.{ℕ, _+_, _-_, _*_, _/_, _%_, _≤_, _<_}
 use native.Mathlib.Omega.{arith}
@@ -18,7 +18,6 @@ use Rattle.alf_spec.specs.Boundary.{columnSide, rowSide}
 use Rattle.alf_spec.specs.Arithmetic.{filtered}
 use Rattle.alf_spec.specs.Chroma.{chromaRows, chromaPlus, chromaMinus, chromaRowsAt, chromaRead, chromaWith, chromaSample}
 use Rattle.alf_spec.specs.Process.{atIndex}
-use Rattle.alf_spec.proofs.Tests.{cond-either}
 use Rattle.alf_spec.proofs.Axes.{Regular}
 use Rattle.alf_spec.proofs.LineCrossing.{chroma-read}
 use Rattle.alf_spec.proofs.Ratios.{chroma-ratios}
@@ -39,19 +38,13 @@ use Rattle.alf_chroma.specs.Samples.{copyPlus, copyMinus, chromaCopySamp
 use Rattle.alf_chroma.specs.declared.kernel.ChromaStarts.{ChromaStarts}
 use Rattle.alf_params.specs.Filters.{ChromaFilter}
 use Rattle.alf_chroma.specs.Pieces.{Spread, unlinedPlane, copyChromaAt}
+use Rattle.alf_chroma.proofs.PieceRows.{row-bounds}
 
 -- the columns of the plane, as code has them
 pub columns-wide : (l : Layout) {p : Picture} {ratio : ℕ} → l .picture ≡ p → ratio ≡ subWidth p
     → samples (chromaPlane l .columns) ≡ p .width / ratio
 unfolding planeOf
 columns-wide l e r = rw (e, r)
-
--- Table 46: the farther row is the second
-row-order : (line : Bool) (d : ℕ) → chromaRows line d .y1 ≤ chromaRows line d .y2
-unfolding chromaRows
-row-order line d =
-    let ordered : (ChromaRows → Type 0) = λ r. r .y1 ≤ r .y2 in
-    cond-either ordered (line && _) _ _ (omega arith) (cond-either ordered (line && _) _ _ (omega arith) (omega arith))
 
 -- an input, a piece of a CTB of it, and the piece's copy
 module _ (i : Input) {p : Picture} {c : Ctb} {s : Sides} (ctb : CtbOf (i .layout) p c s) {columns rows : Piece}
@@ -62,7 +55,7 @@ module _ (i : Input) {p : Picture} {c : Ctb} {s : Sides} (ctb : CtbOf (i .layout
     (room : copyLength columns rows ≤ length copy0) (component : ℕ) where
   -- a sample of the piece
   module _ (x y : ℕ) (left : columns .start ≤ x) (right : x < columns .end) (top : rows .start ≤ y) (bottom : y < rows .end) where
-    -- its place in the piece
+    -- its column in the piece, and its row
     abbrev column : ℕ
     column = x - columns .start
 
@@ -81,7 +74,7 @@ module _ (i : Input) {p : Picture} {c : Ctb} {s : Sides} (ctb : CtbOf (i .layout
     regular : Regular (chromaPlane (i .layout) .rows)
     regular = regular-down ctb (subWidth (i .layout .picture)) (subHeight (i .layout .picture)) (2 * subHeight (i .layout .picture))
 
-    -- its neighbour at (u, v), which stands in row j of the copy; the sample stands at m = 3
+    -- the sample's neighbour at (u, v), which stands in row j of the copy, m - 3 columns from the sample's own
     neighbour : (u v m j : ℕ) → (1 ≤ m) × (m ≤ 5) × (row + 1 ≤ j) × (j ≤ row + 5) × (u ≡ x + m - 3) × (v ≡ rows .start + j - 3)
         → y ≤ v + chromaRowsAt i component x y .y2 → v ≤ y + chromaRowsAt i component x y .y2
         → chromaRead i component x y (u, v) ≡ getD copy (j * pitch columns + column + m) 0
@@ -116,7 +109,7 @@ module _ (i : Input) {p : Picture} {c : Ctb} {s : Sides} (ctb : CtbOf (i .layout
       abbrev starts : ChromaStarts
       starts = chromaStartsOf (pitch columns) row r
 
-      -- how far they reach
+      -- how far the rows of Table 46 reach
       reach : r .y2 ≡ chromaRowsAt i component x y .y2
       reach = ap (λ (r : ChromaRows). r .y2) is
 
@@ -169,4 +162,4 @@ module _ (i : Input) {p : Picture} {c : Ctb} {s : Sides} (ctb : CtbOf (i .layout
       rw (ctb .picture) (rect-facts (p .width / subWidth p) (columns .start) (columns .end) (rows .start) (rows .end) k t) in
       rw (grid .ctb, ← (ctb .picture))
       (with-same (k % (q .width / subWidth q)) (k / (q .width / subWidth q)) (f .0) (f .1) (f .2) (f .3) _ (chroma-offsets _ _)
-      (row-order _ _) refl F S)
+      (row-bounds _ _ .0) refl F S)

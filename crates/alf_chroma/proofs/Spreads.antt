@@ -17,7 +17,7 @@ use Rattle.alf_lists.proofs.Regions.{in-run, run-facts}
 use Rattle.alf_taps.specs.Spread.{clipPlace, TapNumbers}
 use Rattle.alf_chroma.specs.Pieces.{Spread}
 
--- before a run, or after it
+-- an index before a run, or after it, is not in it
 outside : (f n k : ℕ) → (k < f) ⊎ (f + n ≤ k) → between f n k ≡ false
 outside f n k (inl h) = never _ (λ t. let z = run-facts f n k t in omega arith)
 outside f n k (inr h) = never _ (λ t. let z = run-facts f n k t in omega arith)
@@ -53,7 +53,7 @@ module _ (filters : List ℤ) (j : ℕ) {n : ℕ} {taps one two : List ℤ} (T :
     clips = λ k h. rw (clip-at k h) (cond-either ClipRange (between (128 * j) n k) _ _ hw (T .clips k h));
   }
 
-  -- of tap j itself, and of those before it
+  -- column x of tap j is written, and that of a tap before it is not
   here : (x : ℕ) → x < n → between (128 * j) n (128 * j + x) ≡ true
   here x h = in-run (128 * j) n (128 * j + x) (omega arith)
 

@@ -20,7 +20,7 @@ use Rattle.alf_chroma.specs.Samples.{pieceSample}
 
 -- ---- a filter: 6 coefficients, and then 6 clips (`ChromaFilter`)
 
--- the numbers of its first `count` taps stand in the first n columns
+-- the numbers of the filter's first `count` taps stand in the first n columns
 pub record Spread (filters : List ℤ) (count n : ℕ) (taps : List ℤ) : Type 0 where
   pub coefficients : (j x : ℕ) → j < count → x < n → spreadCoeff taps x j ≡ getD filters j (pos 0)
   pub clips : (j x : ℕ) → j < count → x < n → spreadClip taps x j ≡ getD filters (6 + j) (pos 0)

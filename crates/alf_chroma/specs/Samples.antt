@@ -33,7 +33,7 @@ chromaCopySample copy s taps shift depth x =
     filtered depth shift (getD copy (s .here + x + 3) 0)
     (tapSum 6 (getD copy (s .here + x + 3) 0) (spreadCoeff taps x) (spreadClip taps x) (copyPlus copy s x) (copyMinus copy s x))
 
--- at index k of the plane, where column 0 stands at index `from`
+-- the filtered sample at index k of the plane, where column 0 stands at index `from`
 abbrev pub chromaCopySampleFrom : List ℕ → ChromaStarts → List ℤ → ℕ → ℕ → ℕ → ℕ → ℕ
 chromaCopySampleFrom copy s taps shift depth from k = chromaCopySample copy s taps shift depth (k - from)
 
@@ -51,7 +51,7 @@ chromaStartsOf pitch t r = record {
 unfoldable pub pieceSample : List ℕ → ℕ → ChromaRows → List ℤ → ℕ → ℕ → ℕ → ℕ
 pieceSample copy pitch r taps depth t x = chromaCopySample copy (chromaStartsOf pitch t r) taps (r .shift) depth x
 
--- at index k of the plane, where the piece's row t begins at index `from`
+-- the filtered sample at index k of the plane, where the piece's row t begins at index `from`
 abbrev pub pieceSampleFrom : List ℕ → ℕ → ChromaRows → List ℤ → ℕ → ℕ → ℕ → ℕ → ℕ
 pieceSampleFrom copy pitch r taps depth t from k = pieceSample copy pitch r taps depth t (k - from)
 

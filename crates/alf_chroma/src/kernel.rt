@@ -10,7 +10,6 @@ ghost use Rattle.alf_lists.specs.Regions.{between};
 ghost use Rattle.alf_taps.specs.Spread.{spreadCoeff, spreadClip, TapNumbers};
 ghost use Rattle.alf_chroma.specs.Samples.{ChromaReads, copyPlus, copyMinus, chromaCopySample, chromaCopySampleFrom};
 use alf_math::rounding::filtered;
-use alf_taps::COLUMNS;
 use alf_taps::add_tap;
 
 // Where the rows of the copy begin that the taps of a row of samples read: its own, those y1 and y2 above it, and those y1 and y2 below.
@@ -29,33 +28,11 @@ fn chroma_sum(copy: &[u16], curr: u16, x: usize, s: ChromaStarts, taps: &[i16]) 
         (copyPlus (now (copy .entry)) s x) (copyMinus (now (copy .entry)) s x) ⌝ }
 {
     let s0 = add_tap(0, copy, curr, x, s.below2, 3, s.above2, 3, taps, 0);
-    let s1 = add_tap(s0, copy, curr, x, s.below1, 4, s.above1, 2, taps, COLUMNS);
-    let s2 = add_tap(
-        s1,
-        copy,
-        curr,
-        x,
-        s.below1,
-        3,
-        s.above1,
-        3,
-        taps,
-        2 * COLUMNS,
-    );
-    let s3 = add_tap(
-        s2,
-        copy,
-        curr,
-        x,
-        s.below1,
-        2,
-        s.above1,
-        4,
-        taps,
-        3 * COLUMNS,
-    );
-    let s4 = add_tap(s3, copy, curr, x, s.here, 5, s.here, 1, taps, 4 * COLUMNS);
-    add_tap(s4, copy, curr, x, s.here, 4, s.here, 2, taps, 5 * COLUMNS)
+    let s1 = add_tap(s0, copy, curr, x, s.below1, 4, s.above1, 2, taps, 128);
+    let s2 = add_tap(s1, copy, curr, x, s.below1, 3, s.above1, 3, taps, 256);
+    let s3 = add_tap(s2, copy, curr, x, s.below1, 2, s.above1, 4, taps, 384);
+    let s4 = add_tap(s3, copy, curr, x, s.here, 5, s.here, 1, taps, 512);
+    add_tap(s4, copy, curr, x, s.here, 4, s.here, 2, taps, 640)
 }
 
 // The filtered sample at column x.

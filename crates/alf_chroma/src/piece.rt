@@ -36,7 +36,7 @@ use alf_taps::COLUMNS;
 // The taps of a chroma filter: so many coefficients, and then as many clips.
 const TAPS: usize = 6;
 
-// The filter's numbers in the first n columns of each tap.
+// The filter's numbers put into the first n columns of each tap.
 fn spread(filters: &[i16], n: usize, taps: &mut [i16])
     requires { ⌜ (12 ≤ length (now filters)) × ((j : ℕ) → j < 6 → CoeffRange (getD (now filters) j (pos 0)))
         × ((j : ℕ) → j < 6 → ClipRange (getD (now filters) (6 + j) (pos 0))) × (n ≤ 128) × (TapNumbers (now taps)) ⌝ }
@@ -67,7 +67,7 @@ fn chroma_starts(pitch: usize, t: usize, r: ChromaRows) -> ChromaStarts
     }
 }
 
-// Row t of a piece of n columns.
+// The filtered samples of row t of a piece of n columns.
 fn filter_row(
     copy: &[u16],
     n: usize,
@@ -96,7 +96,7 @@ fn plane_index(width: u32, y: u32, x: u32) -> usize
     y as usize * width as usize + x as usize
 }
 
-// The rows of a piece.
+// The filtered samples of a piece, row by row, from its copy.
 fn filter_rows(
     picture: Picture,
     grid: Grid,

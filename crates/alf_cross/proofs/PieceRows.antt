@@ -38,7 +38,7 @@ own _ half B = let N = B .numbers in omega (arith, B .start4, B .end4, N .filled
 
 -- ---- the rows that are read
 
--- how far they lie
+-- how far the rows lie that are read
 pub record Near (r : CrossRows) : Type 0 where
   pub above : r .y1 ≤ 1
   pub order : r .y1 ≤ r .y2
@@ -53,7 +53,7 @@ near line d = pick (line && (eqb d 5 || eqb d 4)) (line && (eqb d 6 || eqb d 3))
     pick false true = omega arith
     pick false false = omega arith
 
--- they lie in the copy, which has so many rows, where the sample is in row j
+-- the rows that are read lie in the copy, which has so many rows, where the sample is in row j
 pub row-reads : {split : List ℕ} {r : CrossRows} (j pitch step rows n : ℕ) → Near r → SmallCopy split (rows * pitch)
     → j + 2 < rows → n + last (crossStartsOf pitch j r step) < pitch → CrossReads split (crossStartsOf pitch j r step) n
 row-reads {r = r} j pitch step rows n near held inside within =
@@ -78,14 +78,14 @@ columns-fit _ j r half B = omega arith
 
 -- ---- what the taps read
 
--- of the x-th sample of its row, in row j of the copy
+-- the taps of the x-th sample of its row, in row j of the copy
 module _ (split : List ℕ) (columns : Piece) (step : ℕ) (ratio : Ratio step) (r : CrossRows) (j x : ℕ) where
   -- the sample in column u of row q, which is column c of the first
   sample : (q c u : ℕ) → step * x + c ≡ u
       → getD split (q * pitch columns + x + splitIndex (pitch columns) step c) 0 ≡ splitRead split columns step (u, q)
   sample q c u e = rw (← e) (ap (λ (n : ℕ). getD split n 0) (omega (arith, index-next step ratio (pitch columns) x c)))
 
-  -- the rows that are read, and the columns, by where they begin
+  -- the taps read what `crossTaps` says
   taps-same : splitTaps split (crossStartsOf (pitch columns) j r step) x
       ≡ map (splitRead split columns step) (crossTaps (step * x + 3) j r)
   unfolding splitTaps crossTaps

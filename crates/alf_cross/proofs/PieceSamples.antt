@@ -39,7 +39,7 @@ use Rattle.alf_cross.proofs.PieceRows.{Near, near}
 
 -- ---- sums
 
--- with the same coefficients
+-- sums with the same coefficients are the same
 cross-sum-same : (middle : ℕ) (around : List ℕ) (f g : ℕ → ℤ) → ((j : ℕ) → j < 7 → f j ≡ g j)
     → crossSum middle f around ≡ crossSum middle g around
 unfolding crossSum

@@ -64,7 +64,7 @@ seven-small f h = record { each = each-small (seven f) (h 0, (h 1, (h 2, (h 3, (
 
 -- ---- what is read of the split copy
 
--- fewer samples of a row
+-- what n samples of a row read holds for fewer
 pub reads-less : {split : List ℕ} {s : CrossStarts} {n less : ℕ} → CrossReads split s n → less ≤ n → CrossReads split s less
 reads-less r h = record {
   aboveFirst = r .aboveFirst;
@@ -86,14 +86,14 @@ module _ {split : List ℕ} {s : CrossStarts} {at : ℕ} (reads : CrossReads spl
   fits : SFits w16 f
   fits = fits-abs (omega arith)
 
-  -- what its call asks
+  -- what the call for this tap asks
   pub tap-ready : {tap : ℕ → ℤ} {n : ℕ} {z : ℤ} → Summed tap (128 * 4095) n z → n ≤ 6
       → (natAbs z ≤ 2 ^ 30) × (getD split (s .here + at + s .own) 0 < 4096) × (row + at + column < length split)
       × (getD split (row + at + column) 0 < 4096) × (natAbs (toZ w16 (ofZ w16 f)) ≤ 128)
   tap-ready sum few =
       (omega (arith, sum .small), middle-level, omega (arith, reads .room), sample-level, rw (toZ-ofZ fits) small)
 
-  -- the sum after its call, which returned r
+  -- the sum after the call for this tap, which returned r
   pub tap-added : {tap : ℕ → ℤ} {n : ℕ} {z r : ℤ} → Summed tap (128 * 4095) n z
       → r ≡ z +ℤ toZ w16 (ofZ w16 f) *ℤ (pos (getD split (row + at + column) 0) -ℤ pos (getD split (s .here + at + s .own) 0))
       → f *ℤ (pos (getD split (row + at + column) 0) -ℤ pos (getD split (s .here + at + s .own) 0)) ≡ tap n

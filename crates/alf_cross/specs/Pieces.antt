@@ -26,7 +26,7 @@ pub record CrossPlanes (p : Picture) (g : Grid) (chroma : List ℕ) (filters : L
   pub filterLength : 7 ≤ length filters
   pub coefficients : (j : ℕ) → natAbs (getD filters j (pos 0)) ≤ 128
 
--- these with the picture's luma samples, and room for the copy of a piece and for the split copy
+-- the planes of `CrossPlanes`, the picture's luma samples, and room for the copy of a piece and for the split copy
 pub record CrossWork (p : Picture) (g : Grid) (luma chroma : List ℕ) (filters : List ℤ) (copy split output : ℕ) : Type 0 where
   pub planes : CrossPlanes p g chroma filters output
   pub lumaLength : length luma ≡ p .width * p .height
@@ -39,7 +39,7 @@ pub record SmallCopy (copy : List ℕ) (n : ℕ) : Type 0 where
   pub room : n ≤ length copy
   pub small : (k : ℕ) → k < n → getD copy k 0 < 4096
 
--- (1532): the first seven are the coefficients of the CTB c
+-- (1532): the first seven numbers are the coefficients of the CTB c
 pub record CrossFilter (i : Input) (c : Ctb) (component : ℕ) (filters : List ℤ) : Type 0 where
   pub coefficients : (j : ℕ) → j < 7
       → getD filters j (pos 0) ≡ crossCoeff i (crossAps i c component) component (crossIndex i c component - 1) j

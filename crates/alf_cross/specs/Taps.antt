@@ -18,11 +18,11 @@ use Rattle.alf_cross.specs.declared.kernel.CrossStarts.{CrossStarts}
 unfoldable pub splitIndex : ℕ → ℕ → ℕ → ℕ
 splitIndex pitch step c = cond (eqb step 2) (c % 2 * (pitch / 2) + c / 2) c
 
--- the first n columns of the row that begins at `at` stand there
+-- the first n columns of the row that begins at `at` stand where the split copy has them
 pub record SplitRow (copy split : List ℕ) (pitch step at n : ℕ) : Type 0 where
   pub same : (c : ℕ) → c < n → getD split (at + splitIndex pitch step c) 0 ≡ getD copy (at + c) 0
 
--- each of the first `rows` rows stands so
+-- the columns of each of the first `rows` rows stand where the split copy has them
 pub record Split (copy split : List ℕ) (pitch step rows : ℕ) : Type 0 where
   pub row : (j : ℕ) → j < rows → SplitRow copy split pitch step (j * pitch) pitch
 
@@ -80,6 +80,6 @@ crossStartsOf pitch j r step = record {
   right = splitIndex pitch step 4;
 }
 
--- such a sample, corrected, as in `rowSample`
+-- the corrected sample, as in `rowSample`, at index k of the plane, where the row begins at index `from`
 abbrev pub offsetSample : List ℕ → ℕ → ℕ → CrossRows → ℕ → List ℤ → ℕ → List ℕ → ℕ → ℕ → ℕ
 offsetSample split pitch j r step f = rowSample split (crossStartsOf pitch j r step) (seven f)

@@ -32,7 +32,7 @@ fn split_row(copy: &[u16], pitch: usize, at: usize, split: &mut [u16])
     }
 }
 
-// The copy's rows.
+// The rows of the copy, each split.
 pub(crate) fn split_rows(copy: &[u16], pitch: usize, rows: usize, split: &mut [u16])
     requires { ⌜ (pitch % 2 ≡ 0) × (rows * pitch ≤ length (now copy)) × (rows * pitch ≤ length (now split)) ⌝ }
     ensures { λ _. ⌜ Split (now (copy .entry)) (now (split .exit)) pitch 2 rows ⌝ }

@@ -69,16 +69,12 @@ chroma-sum-spec =
     tap-ready (given s) (plus s) (minus s) (r .below2) 3 (r .above2) 3 0 summed-none (omega (arith, s .pre .0 .rise)))
     (λ c κs. let s : tie.Start = search needs in let r = s .args .s in
     tap-ready (given s) (plus s) (minus s) (r .below1) 4 (r .above1) 2 128 (sum-1 c) (omega (arith, s .pre .0 .rise)))
-    (λ c. search needs)
     (λ c κs. let s : tie.Start = search needs in let r = s .args .s in
     tap-ready (given s) (plus s) (minus s) (r .below1) 3 (r .above1) 3 256 (sum-2 c) (omega (arith, s .pre .0 .rise)))
-    (λ c. search needs)
     (λ c κs. let s : tie.Start = search needs in let r = s .args .s in
     tap-ready (given s) (plus s) (minus s) (r .below1) 2 (r .above1) 4 384 (sum-3 c) (omega (arith, s .pre .0 .rise)))
-    (λ c. search needs)
     (λ c κs. let s : tie.Start = search needs in let r = s .args .s in
     tap-ready (given s) (plus s) (minus s) (r .here) 5 (r .here) 1 512 (sum-4 c) (omega (arith, s .pre .0 .rise)))
-    (λ c. search needs)
     (λ c κs. let s : tie.Start = search needs in let r = s .args .s in
     tap-ready (given s) (plus s) (minus s) (r .here) 4 (r .here) 2 640 (sum-5 c) (omega (arith, s .pre .0 .rise)))
     (λ c. sum-6 c .is))
