@@ -31,7 +31,7 @@ module _ (g : Grid) (c : Ctb) where
   abbrev pub diagonal : Side → Neighbour
   diagonal d = record { there = hasNext (g .columns) d (c .column) && hasNext (g .rows) d (c .row); ctb = diagonalCtb d c }
 
-  -- all of these
+  -- the CTBs next to c, by their sides and corners
   abbrev pub neighboursOf : Neighbours
   neighboursOf = record {
     left = beside before;

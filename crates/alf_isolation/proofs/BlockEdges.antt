@@ -14,7 +14,7 @@ pub edge-block : (d : Side) (b : ℕ) → edge d b / 8 ≡ b
 edge-block before b = omega arith
 edge-block after b = omega arith
 
--- and in the picture, where the block does
+-- the edge samples of a block of the picture lie in the picture
 pub edge-below : (n : ℕ) → n % 8 ≡ 0 → (d : Side) (b : ℕ) → b < n / 8 → edge d b < n
 edge-below n whole before b h = omega arith
 edge-below n whole after b h = omega arith

@@ -49,12 +49,12 @@ module _ (l : Layout) (ok : AcceptedLayout l) (region : List ℕ) (iso : isolate
 -- ---- from blocks to samples
 
 module _ (l : Layout) (ok : AcceptedLayout l) where
-  -- of the row a column step depends on the CTB alone
+  -- a step along the columns depends on the row only by its block
   column-row : (x y v : ℕ) → y / 8 ≡ v / 8 → (d : Side) → columnStep l x y d ≡ columnStep l x v d
   unfolding columnStep planeOf
   column-row x y v e d = rw (same-ctb (lumaPlane l .rows) (regular-rows l ok 1 1 4) refl y v e)
 
-  -- and so does a row step of the column
+  -- a step along the rows depends on the column only by its block
   row-column : (x u y : ℕ) → x / 8 ≡ u / 8 → (e : Side) → rowStep l x y e ≡ rowStep l u y e
   unfolding rowStep planeOf
   row-column x u y q e = rw (same-ctb (lumaPlane l .columns) (regular-columns l ok 1 1 4) refl x u q)

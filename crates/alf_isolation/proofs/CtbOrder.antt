@@ -35,7 +35,7 @@ module _ (a : Axis) where
         let positive : 0 < a .ctb / 8 = omega (arith, ok .big) in
         omega (arith, mod-lt x positive, div-add-mod' x (a .ctb / 8))
 
-    -- and its CTB one of the picture's
+    -- the CTB of a block of the picture is one of the picture's
     ctb-in : x / (a .ctb / 8) < ctbCount a
     ctb-in =
         let inPicture : 8 * x < a .size = omega (arith, rw blocks at h) in
@@ -72,7 +72,7 @@ module _ (l : Layout) (region : List ℕ) (accepted : isolationFault l region �
       rw (div-add-mod' x side, div-add-mod' y side)
       at (all-at _ _ (all-at _ _ own (y % side) (in-ctb _ rows refl y row)) (x % side) (in-ctb _ columns refl x column))))
 
-  -- the same blocks, in the order of their CTBs
+  -- every block of the picture passes exactly when every block of each CTB does
   pub by-ctbs : blocksPass l region ≡ allBelow (ctbTotal l) (λ k. ctbPasses l region (ctbOf l k))
   by-ctbs = same-test _ _ to-ctbs to-all
 

@@ -109,7 +109,7 @@ module _ (columns x y : ℕ) (h : x < columns) where
   index-lower-right : y * columns + x + (columns + 1) ≡ suc y * columns + suc x
   index-lower-right = omega arith
 
--- of the block x, y in the CTB c
+-- the steps out of the block x, y, which lies in the CTB c
 module _ (l : Layout) (ok : AcceptedLayout l) (c : Ctb) (x y : ℕ)
     (inColumn : (d : Side) → edge d x / ctbSize (l .picture) ≡ c .column) (inRow : (e : Side)
     → edge e y / ctbSize (l .picture) ≡ c .row) where

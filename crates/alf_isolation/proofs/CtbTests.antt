@@ -22,7 +22,7 @@ use Rattle.alf_isolation.specs.Steps.{ctbTest, addressPasses, BlocksOf}
 use Rattle.alf_isolation.proofs.CtbOrder.{isolated-by-ctbs}
 use Rattle.alf_isolation.proofs.CtbSteps.{ctb-by-sides}
 
--- of an accepted layout and region
+-- an accepted layout and region
 module _ (l : Layout) (region : List ℕ) (accepted : isolationFault l region ≡ 0) (g : Grid) (h : GridOf (l .picture) g) where
   ok : AcceptedLayout l
   ok = accepted-layout l region accepted

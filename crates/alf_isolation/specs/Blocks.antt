@@ -28,11 +28,11 @@ module _ (l : Layout) (region : List ℕ) where
       && (bothSides (λ e. implies (rowStep l (edge before x) (edge e y) e) (blockInside x (next e y)))
       && bothSides (λ d. bothSides (λ e. implies (diagonalStep l (edge d x) (edge e y) d e) (blockInside (next d x) (next e y)))))
 
-  -- of a block in the region
+  -- the block at this column and row passes: it is not in the region, or no open step leads out of it
   unfoldable pub blockPasses : ℕ → ℕ → Bool
   blockPasses x y = implies (blockInside x y) (blockStays x y)
 
-  -- of every block
+  -- every block of the picture passes
   unfoldable pub blocksPass : Bool
   blocksPass = allBelow (samples (blockPlane l .rows)) (λ y. allBelow (samples (blockPlane l .columns)) (λ x. blockPasses x y))
 
@@ -40,7 +40,7 @@ module _ (l : Layout) (region : List ℕ) where
 unfoldable pub blocksIn : Axis → ℕ → ℕ
 blocksIn a q = min (a .ctb / 8) (samples a - q * (a .ctb / 8))
 
--- of every block of the CTB c
+-- every block of the CTB c passes
 unfoldable pub ctbPasses : Layout → List ℕ → Ctb → Bool
 ctbPasses l region c =
     allBelow (blocksIn (blockPlane l .rows) (c .row)) (λ j.

@@ -17,7 +17,7 @@ pub fn print_labelled(text: &[u8], n: u32) {
     print_number(n);
 }
 
-// With its sign. It is widened first, so that the smallest has an opposite too.
+// A number with its sign. It is widened first, so that the smallest has an opposite too.
 pub fn print_integer(n: i32) {
     let wide = n as i64;
     if wide < 0 {
@@ -35,7 +35,7 @@ pub fn print_answer(text: &[u8], number: u8) {
     print(b"\n");
 }
 
-// The same of the isolation test, and what it says.
+// What was asked of the isolation test, the number of its answer, and what it says.
 pub fn print_isolation(text: &[u8], number: u8, answer: Isolation) {
     print(text);
     print_labelled(b": answer ", number as u32);
@@ -63,7 +63,7 @@ fn ends_row(k: usize, columns: usize) -> bool {
     columns > 0 && k % columns == columns - 1
 }
 
-// Four characters wide.
+// A sample, four characters wide.
 fn print_sample(sample: u16) {
     if sample < 100 {
         print(b" ");
@@ -74,7 +74,7 @@ fn print_sample(sample: u16) {
     print_labelled(b" ", sample as u32);
 }
 
-// So many samples a row.
+// A plane, so many samples a row.
 pub fn print_plane(plane: &[u16], columns: usize) {
     let mut k = 0;
     while k < plane.len() {
@@ -96,7 +96,7 @@ fn print_class(n: u8) {
     print_labelled(b":", (n / 32) as u32);
 }
 
-// So many blocks a row.
+// A class map, so many blocks a row.
 pub fn print_map(map: &[u8], columns: usize) {
     let mut k = 0;
     while k < map.len() {

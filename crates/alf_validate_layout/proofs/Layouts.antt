@@ -51,13 +51,13 @@ module _ (l : Layout) (p : Picture) (g : Grid) (h : GridOf p g) (e : l .picture 
   unfolding virtualBoundariesValid
   virtual-valid columns rows u v x y = rw (x, y, h .ctb, ← e, u, v)
 
-  -- of the numbers and of the corners
+  -- the slice map's test, from that of its numbers and that of its corners
   pub slices-valid : (map : List ℕ) → l .sliceMap ≡ map → {a b : Bool} → a ≡ every (λ n. ltb n (p .«slice_count»)) map
       → b ≡ allBelow (g .rows - 1) (cornersInRow sliceCorner map (g .columns)) → (a && b) ≡ slicesValid l
   unfolding slicesValid
   slices-valid map u x y = rw (x, y, corners-valid sliceCorner map, ← e, u)
 
-  -- and of the switches
+  -- the subpictures' test, from those of their numbers, of the switches and of the corners
   pub subpictures-valid : (map across : List ℕ) → l .subpicMap ≡ map → l .subpicAcross ≡ across → {a b c : Bool}
       → a ≡ every (λ n. ltb n 64) map → b ≡ every (λ n. ltb n 2) across
       → c ≡ allBelow (g .rows - 1) (cornersInRow subpicCorner map (g .columns)) → (a && (b && c)) ≡ subpicturesValid l

@@ -19,7 +19,7 @@ fn slice_corner(a: u8, b: u8, c: u8, d: u8) -> bool
     !((a == c) & ((a == d) & (a != b))) & !((a == b) & ((a == d) & (a != c)))
 }
 
-// The same of subpictures: never exactly three of four alike.
+// Whether four CTBs round a corner may have these subpictures, upper left first, row by row: never exactly three of four alike.
 fn subpic_corner(a: u8, b: u8, c: u8, d: u8) -> bool
     ensures { λ r. ⌜ r ≡ subpicCorner a b c d ⌝ }
 {

@@ -17,7 +17,7 @@ pub fn samples_below(list: &[u16], limit: u16) -> bool
     good
 }
 
-// The same of CTB addresses.
+// Whether each CTB address is below the limit.
 pub fn addresses_below(list: &[u32], limit: u32) -> bool
     ensures { λ r. ⌜ r ≡ every (λ n. ltb n limit) (now (list .entry)) ⌝ }
 {

@@ -43,7 +43,7 @@ fn bank_number_valid(bit_depth: u8, k: usize, number: i16) -> bool
     }
 }
 
-// Whether the whole bank is.
+// Whether each number of the whole bank is in its range.
 pub fn bank_valid(bit_depth: u8, bank: &[i16]) -> bool
     requires { ⌜ «bit_depth» ≤ 12 ⌝ }
     ensures { λ r. ⌜ r ≡ everyFrom 0 (bankNumberValid «bit_depth») (now (bank .entry)) ⌝ }

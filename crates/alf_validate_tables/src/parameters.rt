@@ -49,7 +49,7 @@ fn ranges_valid(
                             & ((ctb_params[at + 6] <= 4) & (ctb_params[at + 7] <= 4)))))))
 }
 
-// Whether its chroma flags, alternatives and cross-component indices are all 0.
+// Whether the chroma flags, alternatives and cross-component indices of the CTB at address k are all 0.
 fn chroma_zero(picture: Picture, ctb_params: &[u8], k: usize) -> bool
     requires { ⌜ 8 * k + 8 ≤ length (now «ctb_params») ⌝ }
     ensures { λ r. ⌜ ((sliceMap sliceParams : List ℕ)
@@ -83,7 +83,7 @@ fn ctb_params_valid_at(
     ranges
 }
 
-// Whether those of every CTB are.
+// Whether the parameters of every CTB are valid.
 fn ctb_params_valid(
     picture: Picture,
     slice_map: &[u8],

@@ -1,5 +1,5 @@
-// Runs paper 01's examples of judging and of the isolation test, an input for each number of its table and for what shares a number, and the
-// causes at the sides of a few samples.
+// Runs paper 01's examples of judging and of the isolation test, an input for each number of its table and for what shares a number, and
+// the causes at the sides of a few samples.
 
 mod causes;
 mod damaged;

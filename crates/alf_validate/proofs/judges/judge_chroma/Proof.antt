@@ -13,7 +13,7 @@ judge-chroma-spec =
     (λ c κs. search needs) (λ c κs. search needs) (λ c κs. search needs) (λ c. search needs) (λ c. search needs)
     (λ c. search needs) (λ c κs. search needs)
     (λ c.
-    let v = c .before .before .before .before in
+    let v : tie.After-component-valid = search needs in
     let b = v .before in
     chroma-fault _ _ _ _ _ _ _ _ (v .component-valid .ensures .0) (b .before .chroma-fits .ensures _ refl) (b .chroma-fits2 .ensures _ refl)
     (c .judge-filter .ensures _)))

@@ -26,17 +26,7 @@ corners-valid-spec =
     μ-loop
     Inv-corners
     μ-corners
-    (λ c. search (corners, needs))
-    (λ c. search (corners, needs))
-    (λ c. search (corners, needs))
-    (λ c. search (corners, needs))
-    (λ c κs. search needs)
-    (λ c. search (corners, needs))
-    (λ c. search (corners, needs))
-    (λ c. search (corners, needs))
-    (λ c. search (corners, needs))
-    (λ c. search (corners, needs))
-    (λ c. search (corners, needs))
-    (λ c. search (corners, needs))
-    (λ c. search (corners, needs))
-    (λ c. search (corners, needs)))
+    (λ c. search (corners, needs)) (λ c. search (corners, needs)) (λ c. search (corners, needs)) (λ c. search (corners, needs))
+    (λ c κs. search needs) (λ c. search (corners, needs)) (λ c. search (corners, needs)) (λ c. search (corners, needs))
+    (λ c. search (corners, needs)) (λ c. search (corners, needs)) (λ c. search (corners, needs)) (λ c. search (corners, needs))
+    (λ c. search (corners, needs)) (λ c. search (corners, needs)))

@@ -21,7 +21,7 @@ layout-fault-spec =
     (λ c κs. search needs)
     (λ c. search (stops, goes, and-same) depth 8)
     (λ c κs.
-    let two = c .before .before .before .before in
+    let two : tie.Else2 = search needs in
     let one = two .before .before in
     (took (one .before .picture-size-valid .ensures) (one .if1 .left), took (two .before .ctb-size-valid .ensures) (two .if2 .left)))
     (λ c. search (goes, and-same) depth 8))

@@ -10,4 +10,4 @@ layout-lengths-valid-spec =
     (tie.spec
     (λ c. search needs) (λ c. search needs)
     (λ c. record { fits = total-fits (c .before .before .pre) })
-    (λ c l e. lengths-valid l _ _ (c .before .before .before .before .pre) e _ _ _ _ _))
+    (λ c l e. let s : tie.Start = search needs in lengths-valid l _ _ (s .pre) e _ _ _ _ _))

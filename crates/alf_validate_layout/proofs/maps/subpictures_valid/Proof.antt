@@ -10,6 +10,7 @@ subpictures-valid-spec =
     (tie.spec
     (λ c κs. search needs) (λ c κs. search needs) (λ c. search needs) (λ c. search needs) (λ c κs. search needs)
     (λ c l e u v.
-    let s = c .before .before .before in
-    let h = s .before .before .before .before .pre .0 in
-    subpictures-valid l _ _ h e _ _ u v (s .before .bytes-below .ensures) (s .bytes-below2 .ensures) (c .corners-valid .ensures)))
+    let s : tie.Start = search needs in
+    let switches : tie.After-bytes-below2 = search needs in
+    subpictures-valid l _ _ (s .pre .0) e _ _ u v (switches .before .bytes-below .ensures) (switches .bytes-below2 .ensures)
+    (c .corners-valid .ensures)))

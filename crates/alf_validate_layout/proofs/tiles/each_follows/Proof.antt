@@ -20,14 +20,6 @@ each-follows-spec =
     (tie.spec
     Inv-loop
     μ-loop
-    (λ c. search (scans, needs))
-    (λ c. search (scans, needs))
-    (λ c. search (scans, needs))
-    (λ c. search (scans, needs))
-    (λ c. search (scans, needs))
-    (λ c κs. search needs)
-    (λ c. search (scans, needs))
-    (λ c. search (scans, needs))
-    (λ c. search (scans, needs))
-    (λ c. search (scans, needs))
-    (λ c. search (scans, needs)))
+    (λ c. search (scans, needs)) (λ c. search (scans, needs)) (λ c. search (scans, needs)) (λ c. search (scans, needs))
+    (λ c. search (scans, needs)) (λ c κs. search needs) (λ c. search (scans, needs)) (λ c. search (scans, needs))
+    (λ c. search (scans, needs)) (λ c. search (scans, needs)) (λ c. search (scans, needs)))

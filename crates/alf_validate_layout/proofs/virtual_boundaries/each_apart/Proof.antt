@@ -20,16 +20,7 @@ each-apart-spec =
     (tie.spec
     Inv-loop
     μ-loop
-    (λ c. search (scans, needs))
-    (λ c. search (scans, needs))
-    (λ c. search (scans, needs))
-    (λ c. search (scans, needs))
-    (λ c. search (scans, needs))
-    (λ c. search (scans, needs))
-    (λ c. search (scans, needs))
-    (λ c κs. search needs)
-    (λ c. search (scans, needs))
-    (λ c. search (scans, needs))
-    (λ c. search (scans, needs))
-    (λ c. search (scans, needs))
+    (λ c. search (scans, needs)) (λ c. search (scans, needs)) (λ c. search (scans, needs)) (λ c. search (scans, needs))
+    (λ c. search (scans, needs)) (λ c. search (scans, needs)) (λ c. search (scans, needs)) (λ c κs. search needs)
+    (λ c. search (scans, needs)) (λ c. search (scans, needs)) (λ c. search (scans, needs)) (λ c. search (scans, needs))
     (λ c. search (scans, needs)))

@@ -21,11 +21,6 @@ each-position-valid-spec =
     (tie.spec
     Inv-loop
     μ-loop
-    (λ c. search (scans, needs))
-    (λ c. search (scans, needs))
-    (λ c. search (scans, needs))
-    (λ c κs. search needs)
-    (λ c. search (scans, needs))
-    (λ c. search (scans, needs))
-    (λ c. search (scans, needs))
+    (λ c. search (scans, needs)) (λ c. search (scans, needs)) (λ c. search (scans, needs)) (λ c κs. search needs)
+    (λ c. search (scans, needs)) (λ c. search (scans, needs)) (λ c. search (scans, needs))
     (λ c. every-done 0 _ _ (c .before .loop .inv) (c .loop-test .left)))

@@ -11,5 +11,5 @@ virtual-boundaries-valid-spec =
     (tie.spec
     (λ c κs. search needs) (λ c κs. search needs)
     (λ c l e u v.
-    let s = c .before .before .before .before in
+    let s : tie.Start = search needs in
     virtual-valid l _ _ (s .pre) e _ _ u v (c .before .virtual-list-valid .ensures) (c .virtual-list-valid2 .ensures)))

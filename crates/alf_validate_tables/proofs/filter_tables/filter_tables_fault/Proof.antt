@@ -32,7 +32,7 @@ filter-tables-fault-spec =
     let three = c .before .before in
     let two = three .before .before in
     let one = two .before .before in
-    let start = one .before .before .before .before .before .before .before .before .before in
+    let start : tie.Start = search needs in
     goes _ _ (parameters-of _ (one .before .parameters-valid .ensures)) (one .if1 .left)
     (goes _ _ (two .before .filters-valid .ensures) (two .if2 .left)
     (goes _ _ (three .before .planes-valid .ensures) (three .if3 .left)
@@ -41,7 +41,7 @@ filter-tables-fault-spec =
     let three = c .before .before in
     let two = three .before .before in
     let one = two .before .before in
-    let start = one .before .before .before .before .before .before .before .before .before in
+    let start : tie.Start = search needs in
     goes _ _ (parameters-of _ (one .before .parameters-valid .ensures)) (one .if1 .left)
     (goes _ _ (two .before .filters-valid .ensures) (two .if2 .left)
     (goes _ _ (three .before .planes-valid .ensures) (three .if3 .left)

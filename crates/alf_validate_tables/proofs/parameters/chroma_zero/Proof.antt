@@ -15,5 +15,6 @@ chroma-zero-spec =
     (λ c. search needs) (λ c. search needs) (λ c. search needs) (λ c. search needs) (λ c. search needs) (λ c. search needs)
     (λ c. search needs)
     (λ c sliceMap sliceParams.
-    let a = c .before .before .before .before .before .before .args in
+    let start : tie.Start = search needs in
+    let a = start .args in
     simp (at-address (parametersInput (a .picture) sliceMap sliceParams (a .ctb-params .now)) (a .k))))

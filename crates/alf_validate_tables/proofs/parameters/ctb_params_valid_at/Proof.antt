@@ -13,7 +13,9 @@ ctb-params-valid-at-spec =
     (tie.spec
     (λ c κs. search needs) (λ c κs. search needs)
     (λ c.
-    let f = c .before .before .before in
-    let a = f .before .before .before .before .args in
-    rw (f .ranges-valid .ensures, eq-eqb _ 0 (c .before .if1 .taken), c .chroma-zero .ensures (a .slice-map .now) (a .slice-params .now)))
+    let start : tie.Start = search needs in
+    let ranges : tie.After-ranges-valid = search needs in
+    let a = start .args in
+    let zero = c .chroma-zero .ensures (a .slice-map .now) (a .slice-params .now) in
+    rw (ranges .ranges-valid .ensures, eq-eqb _ 0 (c .before .if1 .taken), zero))
     (λ c. rw (c .before .before .ranges-valid .ensures, ne-eqb _ 0 (c .if1 .left), and-true)))

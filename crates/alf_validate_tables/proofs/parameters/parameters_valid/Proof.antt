@@ -11,5 +11,5 @@ parameters-valid-spec =
     (tie.spec
     (λ c κs. search needs) (λ c κs. search needs)
     (λ c.
-    let s = c .before .before .before .before .before in
+    let s : tie.Start = search needs in
     rw (c .before .slice-params-valid .ensures, c .ctb-params-valid .ensures, s .pre .1)))

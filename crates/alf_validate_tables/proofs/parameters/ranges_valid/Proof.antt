@@ -17,11 +17,12 @@ ranges-valid-spec =
     (λ c κs. let s = c .before .before .before in (s .pre .1, slice-params _ _ _ _ (s .pre .0) _ (s .pre .1)))
     (λ c. search needs) (λ c. search needs) (λ c. search needs) (λ c. search needs) (λ c. search needs) (λ c. search needs)
     (λ c. search needs) (λ c. search needs)
-    (λ c. omega (arith, c .shared-slice-known7 .given (8 * c .before .before .before .before .before .before .before .before .args .k + 3)))
+    (λ c. let start : tie.Start = search needs in omega (arith, c .shared-slice-known7 .given (8 * start .args .k + 3)))
     (λ c. search needs) (λ c. search needs) (λ c. search needs) (λ c. search needs) (λ c. search needs) (λ c. search needs)
     (λ c. search needs) (λ c. search needs) (λ c. search needs) (λ c. search needs)
     (λ c.
-    let f = c .before .before .before .before .before .before .before .before in
-    let a = f .before .before .before .before .args in
+    let start : tie.Start = search needs in
+    let count : tie.After-luma-aps-count = search needs in
+    let a = start .args in
     let i = parametersInput (a .picture) (a .slice-map .now) (a .slice-params .now) (a .ctb-params .now) in
-    simp (f .luma-aps-count .ensures, at-address i (a .k), of-slice i (a .k), add-zero)))
+    simp (count .luma-aps-count .ensures, at-address i (a .k), of-slice i (a .k), add-zero)))
