@@ -1,5 +1,5 @@
 // The operations on a picture, each from its own crate. None asks anything of its caller: each judges what it is given, then works.
-mod numbers;
+mod answer_numbers;
 
 pub use alf_boundary::causes::cause_number;
 pub use alf_op_causes::clip_causes;
@@ -8,7 +8,7 @@ pub use alf_op_classes::classes;
 pub use alf_op_cross::cross_component;
 pub use alf_op_isolated::isolated;
 pub use alf_op_luma::luma;
-pub use numbers::causes_number;
-pub use numbers::fault_number;
-pub use numbers::isolation_number;
-pub use numbers::number;
+pub use answer_numbers::causes_number;
+pub use answer_numbers::fault_number;
+pub use answer_numbers::isolation_number;
+pub use answer_numbers::number;

@@ -1,3 +1,3 @@
 -- Claims about the C interface.
-pub mod Named
-pub mod Written
+pub mod WrittenCauses
+pub mod WrittenIsolation

@@ -1,6 +1,6 @@
 -- A call through the C interface. Assumes nothing.
 use mathlib.Core.Bool.{Bool, _&&_, cond}
-use Prim.Native.Nat.{ℕ, zero, suc}
+use Prim.Native.Nat.{ℕ}
 use lib.Dec.{ltb}
 use Rattle.alf_spec.specs.declared.Picture.{Picture}
 
@@ -17,10 +17,9 @@ pictureOf width height ctbLog2 bitDepth chromaFormat sliceCount acrossTiles acro
   «across_slices» = acrossSlices;
 }
 
--- what stands where the isolation test writes, in the end: 1 or 0 where the input is accepted, else what stood there
-abbrev pub written : ℕ → Bool → ℕ → ℕ
-written zero isolated old = cond isolated 1 0
-written (suc n) isolated old = old
+-- the byte that the isolation test writes: 1 where the region is isolated, else 0
+abbrev pub isolatedByte : Bool → ℕ
+isolatedByte isolated = cond isolated 1 0
 
 -- the lowest fault where the list for the causes has no room for them, from what else is the number n: 5, unless n is 1 to 4
 abbrev pub withoutRoom : ℕ → ℕ

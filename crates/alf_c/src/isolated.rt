@@ -3,7 +3,8 @@ ghost use mathlib.Core.Path.{_≡_};
 ghost use Rattle.alf_spec.specs.Input.{layoutOf};
 ghost use Rattle.alf_spec.specs.Faults.{isolationFault};
 ghost use Rattle.alf_spec.specs.Isolation.{isolated as isolatedBy};
-ghost use Rattle.alf_c.specs.Calls.{pictureOf, written};
+ghost use Rattle.alf_spec.specs.Answers.{kept};
+ghost use Rattle.alf_c.specs.Calls.{pictureOf, isolatedByte};
 use alf::fault_number;
 use alf_spec::Isolation;
 use alf_spec::Picture;
@@ -34,7 +35,8 @@ pub extern "C" fn alf_isolated(
         let layout = layoutOf picture (now («virtual_columns» .entry)) (now («virtual_rows» .entry)) (now («tile_columns» .entry))
         (now («tile_rows» .entry)) (now («slice_map» .entry)) (now («subpic_map» .entry)) (now («subpic_across» .entry)) in
         let fault = isolationFault layout (now (region .entry)) in
-        (r ≡ fault) × (now (isolated .exit) ≡ written fault (isolatedBy layout (now (region .entry))) (now (isolated .entry)))) ⌝ }
+        (r ≡ fault)
+        × (now (isolated .exit) ≡ kept fault (isolatedByte (isolatedBy layout (now (region .entry)))) (now (isolated .entry)))) ⌝ }
 {
     let answer = alf::isolated(
         Picture {

@@ -27,7 +27,7 @@ use Rattle.alf_pieces.specs.declared.pieces.Piece.{Piece}
 use Rattle.alf_lists.specs.Regions.{between, inRect}
 use Rattle.alf_pieces.specs.Pieces.{PieceOf, CtbOf}
 use Rattle.alf_pieces.specs.Copies.{extent, pitch, copyLength, copyAt}
-use Rattle.alf_lists.proofs.Regions.{Inside, rect-facts}
+use Rattle.alf_lists.proofs.Regions.{InRect, rect-facts}
 use Rattle.alf_pieces.proofs.CtbPieces.{regular-down, column-facts, row-facts}
 use Rattle.alf_pieces.proofs.PieceWalk.{walk-none}
 use Rattle.alf_pieces.proofs.CopyReads.{own-ctb}
@@ -158,7 +158,7 @@ module _ (i : Input) {p : Picture} {c : Ctb} {s : Sides} (ctb : CtbOf (i .layout
   unfolding planeOf copyChromaAt atIndex chromaSample lineRule bottomDistance
   sample-same grid F S k t =
       let q = i .layout .picture in
-      let f : Inside (q .width / subWidth q) (columns .start) (columns .end) (rows .start) (rows .end) k =
+      let f : InRect (q .width / subWidth q) (columns .start) (columns .end) (rows .start) (rows .end) k =
       rw (ctb .picture) (rect-facts (p .width / subWidth p) (columns .start) (columns .end) (rows .start) (rows .end) k t) in
       rw (grid .ctb, ← (ctb .picture))
       (with-same (k % (q .width / subWidth q)) (k / (q .width / subWidth q)) (f .0) (f .1) (f .2) (f .3) _ (chroma-offsets _ _)

@@ -28,7 +28,7 @@ use Rattle.alf_pieces.specs.declared.pieces.Piece.{Piece}
 use Rattle.alf_lists.specs.Regions.{between, inRect}
 use Rattle.alf_pieces.specs.Pieces.{PieceOf, CtbOf}
 use Rattle.alf_pieces.specs.Copies.{extent, pitch, copyLength, copyAt}
-use Rattle.alf_lists.proofs.Regions.{Inside, rect-facts}
+use Rattle.alf_lists.proofs.Regions.{InRect, rect-facts}
 use Rattle.alf_pieces.proofs.CtbPieces.{column-facts, row-facts}
 use Rattle.alf_pieces.proofs.PieceWalk.{walk-luma}
 use Rattle.alf_pieces.proofs.CopyHolds.{copy-holds}
@@ -134,7 +134,7 @@ module _ {i : Input} {p : Picture} {c : Ctb} {s : Sides} (ctb : CtbOf (i .layout
       let l = i .layout in
       let q = l .picture in
       let W = q .width / subWidth q in
-      let f : Inside W (columns .start / subWidth q) (columns .end / subWidth q) (rows .start / subHeight q) (rows .end / subHeight q) k =
+      let f : InRect W (columns .start / subWidth q) (columns .end / subWidth q) (rows .start / subHeight q) (rows .end / subHeight q) k =
       rw (ctb .picture) (rect-facts (p .width / subWidth p) (columns .start / subWidth p) (columns .end / subWidth p)
       (rows .start / subHeight p)
       (rows .end / subHeight p) k t) in

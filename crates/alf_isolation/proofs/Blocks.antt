@@ -13,7 +13,7 @@ use Rattle.alf_spec.proofs.Tests.{both, implied, imply, same-test, all-at, at-a
 use Rattle.alf_spec.proofs.Accepted.{AcceptedLayout, accepted-layout}
 use Rattle.alf_spec.proofs.Axes.{regular-columns, regular-rows}
 use Rattle.alf_spec.proofs.IsolatedRegions.EightSteps.{Eight, eight-steps, test-eight}
-use Rattle.alf_spec.proofs.IsolatedRegions.Held.{Held, held-column, held-row, held-diagonal}
+use Rattle.alf_spec.proofs.IsolatedRegions.StepsStayInside.{LumaInside, column-stays, row-stays, diagonal-stays}
 use Rattle.alf_isolation.specs.Blocks.{edge, blockInside, blockStays, blockPasses, blocksPass}
 use Rattle.alf_isolation.proofs.BlockEdges.{edge-block, edge-below, edge-next, Leads, stays, leaves, leads, same-ctb}
 
@@ -22,7 +22,7 @@ use Rattle.alf_isolation.proofs.BlockEdges.{edge-block, edge-below, edg
 module _ (l : Layout) (ok : AcceptedLayout l) (region : List ℕ) (iso : isolated l region ≡ true) (x y : ℕ)
     (column : x < samples (blockPlane l .columns)) (row : y < samples (blockPlane l .rows)) (here : blockInside l region x y ≡ true) where
   -- the block's corner samples are in the region
-  held : (d e : Side) → Held l region (edge d x) (edge e y)
+  held : (d e : Side) → LumaInside l region (edge d x) (edge e y)
   unfolding planeOf inside blockInside
   held d e = record {
     column = edge-below (l .picture .width) (regular-columns l ok 1 1 4 .size8) d x column;
@@ -31,7 +31,7 @@ module _ (l : Layout) (ok : AcceptedLayout l) (region : List ℕ) (iso : isolate
   }
 
   -- with a sample its block is
-  arrives : (u v p q : ℕ) → Held l region u v → u / 8 ≡ p → v / 8 ≡ q → blockInside l region p q ≡ true
+  arrives : (u v p q : ℕ) → LumaInside l region u v → u / 8 ≡ p → v / 8 ≡ q → blockInside l region p q ≡ true
   unfolding inside blockInside
   arrives u v p q h e f = rw (← e, ← f) (h .position)
 
@@ -41,9 +41,9 @@ module _ (l : Layout) (ok : AcceptedLayout l) (region : List ℕ) (iso : isolate
       test-eight (λ d. columnStep l (edge d x) (edge before y) d) _ (λ e. rowStep l (edge before x) (edge e y) e) _
       (λ d e. diagonalStep l (edge d x) (edge e y) d e) _
       (record {
-        column = λ d o. arrives _ _ _ _ (held-column l region iso _ _ (held d before) d o) (edge-next d x) (edge-block before y);
-        row = λ e o. arrives _ _ _ _ (held-row l region iso _ _ (held before e) e o) (edge-block before x) (edge-next e y);
-        diagonal = λ d e o. arrives _ _ _ _ (held-diagonal l region iso _ _ (held d e) d e o) (edge-next d x) (edge-next e y);
+        column = λ d o. arrives _ _ _ _ (column-stays l region iso _ _ (held d before) d o) (edge-next d x) (edge-block before y);
+        row = λ e o. arrives _ _ _ _ (row-stays l region iso _ _ (held before e) e o) (edge-block before x) (edge-next e y);
+        diagonal = λ d e o. arrives _ _ _ _ (diagonal-stays l region iso _ _ (held d e) d e o) (edge-next d x) (edge-next e y);
       })
 
 -- ---- from blocks to samples

@@ -57,7 +57,7 @@ module _ {A : Type 0} {d : A} where
       → ((k : ℕ) → k < length xs → q k ≡ (p k || eqb j k)) → Filled d xs q v (set ys j w)
   fill-set {ys = ys} {v = v} j w P h e grows = fill-call P (store ys j w v h e) (λ k l r. refl) grows
 
-  -- the same part, by another test and other values
+  -- the part that is written may be told by another test and other values
   pub fill-same : {xs ys : List A} {p q : ℕ → Bool} {v w : ℕ → A} → Filled d xs p v ys → ((k : ℕ) → k < length xs → q k ≡ p k)
       → ((k : ℕ) → k < length xs → q k ≡ true → v k ≡ w k) → Filled d xs q w ys
   fill-same {xs} {ys} {p} {q} {v} {w} P same agree = record {
@@ -120,7 +120,7 @@ pub paint-set : {xs ys : List ℕ} {p q : ℕ → Bool} {v : ℕ → ℕ} (j w :
     → ((k : ℕ) → k < length xs → q k ≡ (p k || eqb j k)) → Paint xs q v (set ys j w)
 paint-set = fill-set
 
--- the same part written once more, by what stands there
+-- a part that is written twice holds what the second writing gives
 pub paint-again : {xs ys zs : List ℕ} {p : ℕ → Bool} {v w u : ℕ → ℕ} → Paint xs p v ys → Paint ys p w zs
     → ((k : ℕ) → k < length xs → p k ≡ true → w k ≡ u k) → Paint xs p u zs
 paint-again {xs} {ys} {zs} {p} {v} {w} {u} P Q agree = record {

@@ -39,7 +39,7 @@ run-more f i k =
     let h = run-facts f (i + 1) k t in
     ⊎-elim (λ l. inl (in-run f i k (omega arith))) (λ l. inr (eq-eqb (f + i) k (omega arith))) (order k (f + i)))
 
--- the same from 0 on, where code has no sum
+-- one place more of a run from 0 on, where code has no sum
 pub run-next : (i k : ℕ) → between 0 (i + 1) k ≡ (between 0 i k || eqb i k)
 run-next i k = rw zero-add at (run-more 0 i k)
 
@@ -56,17 +56,17 @@ run-join f n g a h b q k =
 -- ---- rectangles
 
 -- the place k lies in the columns from x to x′ and the rows from y to y′
-abbrev pub Inside : ℕ → ℕ → ℕ → ℕ → ℕ → ℕ → Type 0
-Inside columns x x′ y y′ k = (x ≤ k % columns) × (k % columns < x′) × (y ≤ k / columns) × (k / columns < y′)
+abbrev pub InRect : ℕ → ℕ → ℕ → ℕ → ℕ → ℕ → Type 0
+InRect columns x x′ y y′ k = (x ≤ k % columns) × (k % columns < x′) × (y ≤ k / columns) × (k / columns < y′)
 
 module _ (columns x x′ y y′ k : ℕ) where
-  pub in-rect : Inside columns x x′ y y′ k → inRect columns x x′ y y′ k ≡ true
+  pub in-rect : InRect columns x x′ y y′ k → inRect columns x x′ y y′ k ≡ true
   unfolding inRect
   in-rect h =
       simp (le-leb x (k % columns) (h .0), lt-ltb (k % columns) x′ (h .1))
       (simp (le-leb y (k / columns) (h .2)) (lt-ltb (k / columns) y′ (h .3)))
 
-  pub rect-facts : inRect columns x x′ y y′ k ≡ true → Inside columns x x′ y y′ k
+  pub rect-facts : inRect columns x x′ y y′ k ≡ true → InRect columns x x′ y y′ k
   unfolding inRect
   rect-facts t =
       let parts = both (leb x (k % columns) && ltb (k % columns) x′) (leb y (k / columns) && ltb (k / columns) y′) t in

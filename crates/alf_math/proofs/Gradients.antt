@@ -114,6 +114,6 @@ pub class-range : (depth factor : ℕ) (s : Sums) → (classOfSums depth factor 
 unfolding classOfSums
 class-range depth factor s = (filter-small _ (mainGradient s) (activity-small depth factor (s .h + s .v)), transpose-small s)
 
--- so that the number of a class fits a byte
+-- the number of a class fits a byte
 pub class-small : (depth factor : ℕ) (s : Sums) → classNumber (classOfSums depth factor s) < 128
 class-small depth factor s = omega (arith, class-range depth factor s)

@@ -74,13 +74,13 @@ module _ (p : Picture) (sizes : pictureSizeValid p ≡ true) (log2 : ctbSizeVali
           rowsHigh = rw high (h .1);
         }
 
--- and of its bit depth
+-- the bounds of an accepted bit depth
 module _ (p : Picture) (valid : bitDepthValid p ≡ true) where
   pub depth-bounds : (8 ≤ p .«bit_depth») × (p .«bit_depth» ≤ 12)
   unfolding bitDepthValid
   depth-bounds = within-bounds 8 12 (p .«bit_depth») valid
 
-  -- of its samples
+  -- the bound of a sample at an accepted bit depth
   pub sample-bound : {n : ℕ} → n < 2 ^ p .«bit_depth» → n < 4096
   sample-bound h = le-trans h (pow-mono (depth-bounds .1))
 

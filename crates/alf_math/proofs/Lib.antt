@@ -1,4 +1,5 @@
 -- Laws that the proofs of this crate, and of those above it, cite.
+pub mod Clips
 pub mod CtbAddresses
 pub mod Gradients
 pub mod Grids

@@ -2,13 +2,12 @@
 mod causes;
 
 ghost use mathlib.Core.Path.{_≡_};
-ghost use mathlib.Core.Bool.{true, cond};
+ghost use mathlib.Core.Bool.{true};
 ghost use mathlib.Core.Option.{some, none};
-ghost use lib.Dec.{eqb};
 ghost use Rattle.alf_spec.specs.Input.{layoutOf};
 ghost use Rattle.alf_spec.specs.Faults.{causesFault};
 ghost use Rattle.alf_spec.specs.Causes.{causesAt};
-ghost use Rattle.alf_spec.specs.Answers.{causesNumber, causesNamed};
+ghost use Rattle.alf_spec.specs.Answers.{causesNumber, causesNamed, kept};
 use alf_spec::Answer;
 use alf_spec::ClipCauses;
 use alf_spec::Picture;
@@ -32,7 +31,7 @@ pub fn clip_causes(
         let layout = layoutOf picture (now («virtual_columns» .entry)) (now («virtual_rows» .entry)) (now («tile_columns» .entry))
         (now («tile_rows» .entry)) (now («slice_map» .entry)) (now («subpic_map» .entry)) (now («subpic_across» .entry)) in
         let fault = causesFault layout true x y in
-        (causesNumber r ≡ fault) × (causesNamed r ≡ cond (eqb fault 0) (some (causesAt layout x y)) none)) ⌝ }
+        (causesNumber r ≡ fault) × (causesNamed r ≡ kept fault (some (causesAt layout x y)) none)) ⌝ }
 {
     let answer = judge_causes(
         picture,

@@ -1,11 +1,10 @@
 // The isolation test (01: shut test of an area).
 ghost use mathlib.Core.Path.{_≡_};
-ghost use mathlib.Core.Bool.{_&&_};
-ghost use lib.Dec.{eqb};
+ghost use mathlib.Core.Bool.{false};
 ghost use Rattle.alf_spec.specs.Input.{layoutOf};
 ghost use Rattle.alf_spec.specs.Faults.{isolationFault};
 ghost use Rattle.alf_spec.specs.Isolation.{isolated as isolatedBy};
-ghost use Rattle.alf_spec.specs.Answers.{isolationNumber, saysIsolated};
+ghost use Rattle.alf_spec.specs.Answers.{isolationNumber, saysIsolated, kept};
 use alf_isolation::region_isolated;
 use alf_spec::Answer;
 use alf_spec::Isolation;
@@ -29,7 +28,7 @@ pub fn isolated(
         let layout = layoutOf picture (now («virtual_columns» .entry)) (now («virtual_rows» .entry)) (now («tile_columns» .entry))
         (now («tile_rows» .entry)) (now («slice_map» .entry)) (now («subpic_map» .entry)) (now («subpic_across» .entry)) in
         let fault = isolationFault layout (now (region .entry)) in
-        (isolationNumber r ≡ fault) × (saysIsolated r ≡ (eqb fault 0 && isolatedBy layout (now (region .entry))))) ⌝ }
+        (isolationNumber r ≡ fault) × (saysIsolated r ≡ kept fault (isolatedBy layout (now (region .entry))) false)) ⌝ }
 {
     let answer = judge_isolation(
         picture,

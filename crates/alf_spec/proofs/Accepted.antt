@@ -37,11 +37,12 @@ pub record AcceptedLayout (l : Layout) : Type 0 where
   pub slices : slicesValid l ≡ true
   pub subpictures : subpicturesValid l ≡ true
 
--- of the picture's sizes, and of the lists of virtual boundaries
+-- the test of the picture's sizes is one of each size
 pub sizes-valid : (p : Picture) → pictureSizeValid p ≡ true → (sizeValid (p .width) ≡ true) × (sizeValid (p .height) ≡ true)
 unfolding pictureSizeValid
 sizes-valid p e = both (sizeValid (p .width)) (sizeValid (p .height)) e
 
+-- the test of the virtual boundaries is one of each list
 pub lists-valid : (l : Layout) → virtualBoundariesValid l ≡ true
     → (virtualListValid (l .picture .width) (ctbSize (l .picture)) (l .virtualColumns) ≡ true)
     × (virtualListValid (l .picture .height) (ctbSize (l .picture)) (l .virtualRows) ≡ true)
@@ -72,7 +73,8 @@ table-lengths l e =
       subpicAcross = eqb-true (length (l .subpicAcross)) 64 (subpics .1);
     }
 
--- what the operation's own tests of 4 and 5 say, too, and that what follows gives no number
+-- where layout and operation have no fault, the layout is accepted, the operation's own tests of 4 and 5 pass, and what follows gives no
+-- number
 pub chain : (l : Layout) (component lengths : Bool) (rest : ℕ) → layoutFault l component lengths rest ≡ 0
     → AcceptedLayout l × (component ≡ true) × (lengths ≡ true) × (rest ≡ 0)
 unfolding layoutFault
@@ -114,7 +116,7 @@ pub accepted-layout : (l : Layout) (region : List ℕ) → isolationFault l regi
 unfolding isolationFault
 accepted-layout l region q = chain l true (regionLengthValid l region) (unless (regionValid region) 14 0) q .0
 
--- and its region
+-- a region that the isolation test accepts
 pub accepted-region : (l : Layout) (region : List ℕ) → isolationFault l region ≡ 0 → length region ≡ planeLength (blockPlane l)
 unfolding isolationFault regionLengthValid
 accepted-region l region q = eqb-true (length region) _ (chain l true (regionLengthValid l region) (unless (regionValid region) 14 0) q .2)

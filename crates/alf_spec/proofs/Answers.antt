@@ -1,14 +1,9 @@
--- What an answer of the judge says of the fault's number. Assumes nothing.
+-- What an answer of the judge says of the fault's number, and of what then stands in an output. Assumes nothing.
 use mathlib.Core.Path.{_≡_, refl, sym, _∙_, ap}
-use mathlib.Core.Bool.{Bool, false, _&&_, cond}
-use mathlib.Core.List.{List}
-use mathlib.Core.Option.{some, none}
 use Prim.Native.Nat.{ℕ, suc, pred}
-use lib.Dec.{eqb, eqb·suc-zero}
 use Rattle.alf_spec.specs.declared.Fault.{Fault}
 use Rattle.alf_spec.specs.declared.Fault.the-variants.{PictureSize, CtbSize, BitDepth, ChromaFormat, Length, VirtualBoundary, Tile}
 use Rattle.alf_spec.specs.declared.Fault.the-variants.{Slice, Subpicture, Parameter, Filter, Sample, Address, Region, Position}
-use Rattle.alf_spec.specs.declared.SideCauses.{SideCauses}
 use Rattle.alf_spec.specs.declared.Answer.{Answer}
 use Rattle.alf_spec.specs.declared.Answer.the-variants.{Accepted, Rejected}
 use Rattle.alf_spec.specs.Answers.{faultNumber, number, kept}
@@ -31,39 +26,26 @@ numbered Address = refl
 numbered Region = refl
 numbered Position = refl
 
-counted : (f : Fault) → eqb (faultNumber f) 0 ≡ false
-counted f = ap (λ (m : ℕ). eqb m 0) (numbered f) ∙ eqb·suc-zero (pred (faultNumber f))
+-- ---- what stands in an output of any type
 
--- the judge's answer a, and the fault's number n
+-- an input that is rejected leaves what stood there
+pub kept-old : {A : Type 0} (f : Fault) {n : ℕ} → faultNumber f ≡ n → (new : A) {old : A} → old ≡ kept n new old
+kept-old f e new = rw (← e, numbered f)
+
+-- an input that is accepted leaves what is new
+pub kept-new : {A : Type 0} {n : ℕ} → 0 ≡ n → {out new : A} (old : A) → out ≡ new → out ≡ kept n new old
+kept-new e old w = rw (← e) w
+
+-- ---- the judge's answer a, and the fault's number n
+
 module _ (a : Answer) {n : ℕ} (e : number a ≡ n) where
   pub accepts : a ≡ Accepted → n ≡ 0
   accepts q = sym e ∙ ap number q
 
-  -- the isolation test answers with the same cause, and does not say isolated
-  pub rejects : {f : Fault} → a ≡ Rejected f → (says : Bool) → (faultNumber f ≡ n) × (false ≡ (eqb n 0 && says))
-  rejects {f} q says =
-      let same : faultNumber f ≡ n = sym (ap number q) ∙ e in
-      (same, rw (← same, counted f))
+  -- where the judge rejects: the number of its fault, and an output that stays as it was
+  pub stays : {A : Type 0} {f : Fault} → a ≡ Rejected f → (new : A) {old : A} → (faultNumber f ≡ n) × (old ≡ kept n new old)
+  stays {f = f} q new = let same : faultNumber f ≡ n = sym (ap number q) ∙ e in (same, kept-old f same new)
 
-  -- it says what was found
-  pub finds : a ≡ Accepted → {found says : Bool} → found ≡ says → {r : Bool} → found ≡ r → (0 ≡ n) × (r ≡ (eqb n 0 && says))
-  finds q s h = (sym (accepts q), rw (accepts q) (sym h ∙ s))
-
-  -- the causes are not named where the judge rejects
-  pub names-none : {f : Fault} → a ≡ Rejected f → (causes : SideCauses) → (faultNumber f ≡ n) × (none ≡ cond (eqb n 0) (some causes) none)
-  names-none {f} q causes =
-      let same : faultNumber f ≡ n = sym (ap number q) ∙ e in
-      (same, rw (← same, counted f))
-
-  -- and are those that were found where it accepts
-  pub names : a ≡ Accepted → {found causes : SideCauses} → found ≡ causes → (0 ≡ n) × (some found ≡ cond (eqb n 0) (some causes) none)
-  names q s = (sym (accepts q), rw (accepts q, s))
-
-  -- what stands in the output: the old entries where the input is rejected, the new ones where it is accepted
-  pub stays : {f : Fault} → a ≡ Rejected f → (new : List ℕ) {old : List ℕ} → old ≡ kept n new old
-  stays {f} q new {old} =
-      let same : n ≡ suc (pred (faultNumber f)) = sym e ∙ ap number q ∙ numbered f in
-      rw same
-
-  pub written : a ≡ Accepted → {out new : List ℕ} (old : List ℕ) → out ≡ new → out ≡ kept n new old
-  written q old w = rw (accepts q) w
+  -- where it accepts: 0, and an output that is the new one
+  pub written : {A : Type 0} → a ≡ Accepted → {out new : A} (old : A) → out ≡ new → (0 ≡ n) × (out ≡ kept n new old)
+  written q old w = let none = sym (accepts q) in (none, kept-new none old w)

@@ -49,7 +49,7 @@ module _ (a : Axis) where
   pub past-end : (x u : ℕ) → x ≤ u → x / a .ctb ≢ u / a .ctb → ctbStart a x + a .ctb ≤ u
   past-end x u h ne = not-gt (λ l. ne (sym (ctb-of (x / a .ctb) u (omega (arith, lower x)) l)))
 
-  -- and at most 7 further on, in the next CTB
+  -- a position in another CTB, at most 7 further on, lies in the next CTB
   pub following : Regular a → (x u : ℕ) → x ≤ u → u ≤ x + 7 → x / a .ctb ≢ u / a .ctb → u / a .ctb ≡ suc (x / a .ctb)
   following ok x u h k ne = ctb-of (suc (x / a .ctb)) u (omega (arith, past-end x u h ne)) (omega (arith, upper ok x, ok .big))
 

@@ -314,7 +314,7 @@ module _ (l : Layout) (regular : Regular (chromaPlane l .rows)) (y q : ℕ) (inY
           let there = lt-own (rows .ratio) (rows .size) (inPlane rows q) (omega arith) in
           record { up = λ g. absurd (omega arith); down = λ g. omega arith }
 
--- so what a tap reads is what it reads in a plane without the line
+-- what a chroma tap reads is what it reads in a plane without the line
 pub chroma-read : (i : Input) → Regular (chromaPlane (i .layout) .rows) → (component x y : ℕ)
     → y < samples (chromaPlane (i .layout) .rows) → (p q : ℕ)
     → y ≤ q + chromaRowsAt i component x y .y2 → q ≤ y + chromaRowsAt i component x y .y2

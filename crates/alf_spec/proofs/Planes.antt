@@ -31,7 +31,7 @@ module _ (g : Plane) (x y : ℕ) (column : x < samples (g .columns)) (row : y < 
   pub index-row : rowOf g (indexOf g x y) ≡ y
   index-row = place-row (samples (g .columns)) (samples (g .rows)) x y column row
 
--- and a CTB its own address
+-- a CTB has its own address
 module _ (l : Layout) (c : Ctb) (column : c .column < ctbColumns l) (row : c .row < ctbRows l) where
   pub address-below : address l c < ctbTotal l
   address-below = place-below (ctbColumns l) (ctbRows l) (c .column) (c .row) column row

@@ -6,7 +6,7 @@ use Prim.Native.Nat.{ℕ, _+_}
 use lib.IntN.{ℤ, pos, negsuc}
 use lib.ListN.{replicate, getD, set}
 use Rattle.alf_spec.specs.declared.Picture.{Picture}
-use Rattle.alf_spec.specs.Input.{Layout, classes, luma, chroma, crossComponent, Input, chromaInput}
+use Rattle.alf_spec.specs.Input.{Layout, layoutOf, classes, luma, chroma, crossComponent, Input, lumaInput, chromaInput, crossInput}
 use Rattle.alf_spec.specs.Lists.{allBelow, everyFrom}
 use Rattle.alf_spec.specs.Geometry.{ctbSize, subWidth, subHeight, planeOf}
 use Rattle.alf_spec.specs.Boundary.{sliceOf}
@@ -70,8 +70,14 @@ inFormat format n = chromaInput (plain (sized 40 5 8 format 2)) (zeros 22) flat 
 abbrev ofColumns : List ℕ → Layout
 ofColumns columns = mapped good columns (0 ∷ 0 ∷ []) (zeros 4) (zeros 4) (replicate 64 1)
 
+abbrev ofRows : List ℕ → Layout
+ofRows rows = layoutOf good [] rows (zeros 2) (zeros 2) (zeros 4) (zeros 4) (replicate 64 1)
+
 abbrev ofTiles : List ℕ → Layout
 ofTiles tiles = mapped good [] tiles (zeros 4) (zeros 4) (replicate 64 1)
+
+abbrev ofTileRows : List ℕ → Layout
+ofTileRows tiles = layout good [] (0 ∷ 1 ∷ []) tiles (zeros 4) (zeros 4) (replicate 64 1)
 
 abbrev ofSlices : List ℕ → Layout
 ofSlices slices = mapped good [] (0 ∷ 1 ∷ []) slices (zeros 4) (replicate 64 1)
@@ -82,6 +88,22 @@ ofSubpictures subpics switch = mapped good [] (0 ∷ 1 ∷ []) (1 ∷ 0 ∷ 0 �
 -- an input in which the second CTB's number k is v, and its slice has one luma APS
 abbrev ofCtbNumber : ℕ → ℕ → Input
 ofCtbNumber k v = onTables (set (zeros 22) 0 1) (set (zeros 32) (8 + k) v) [] [] []
+
+-- a picture without chroma, in which the second CTB's number k is 1
+abbrev withoutChroma : ℕ → Input
+withoutChroma k = smallInput (plain (sized 40 5 8 0 2)) (zeros 22) (set (zeros 32) (8 + k) 1) [] [] [] 0
+
+-- a chroma filter's input and a cross-component filter's, with these chroma samples
+abbrev ofChroma : List ℕ → Input
+ofChroma samples = chromaInput (plain good) (zeros 22) flat (zeros 32) [] samples 400
+
+abbrev ofCross : List ℕ → Input
+ofCross samples = crossInput (plain good) (zeros 22) flat (zeros 32) [] (zeros 1600) samples 400
+
+-- the luma filter's input, with a coefficient of the fixed filters and an entry of the fixed map
+abbrev ofFixed : ℤ → ℕ → Input
+ofFixed z n =
+    lumaInput (plain good) (zeros 22) flat (zeros 32) [] (set (replicate 768 (pos 0)) 767 z) (set (zeros 400) 399 n) (zeros 1600) 1600
 
 -- ---- the claim. A cause has one row with the number that the whole input is given; what else it must reject or pass is put to its own
 -- test.
@@ -108,18 +130,24 @@ pub record Rejections : Type 0 where
   -- a chroma plane is as long as its format says: 20 by 20 samples in 4:2:0, 20 by 40 in 4:2:2, 40 by 40 in 4:4:4
   pub chroma-lengths : map (λ k. map (λ n. lengthsValid (chroma 0) (inFormat k n)) (400 ∷ 800 ∷ 1600 ∷ [])) (1 ∷ 2 ∷ 3 ∷ [])
       ≡ (true ∷ false ∷ false ∷ []) ∷ (false ∷ true ∷ false ∷ []) ∷ (false ∷ false ∷ true ∷ []) ∷ []
+  -- a region has a number for each of the 5 by 5 blocks
+  pub region-lengths : map (λ n. isolationFault (plain good) (zeros n)) (24 ∷ 26 ∷ []) ≡ 5 ∷ 5 ∷ []
   pub r5-output : fault luma (smallInput (plain good) (zeros 22) (zeros 32) flat (zeros 1600) [] 1599) ≡ 5
   pub columns : map (λ v. virtualBoundariesValid (ofColumns v)) ((8 ∷ []) ∷ (32 ∷ []) ∷ (4 ∷ []) ∷ (40 ∷ []) ∷ (8 ∷ 32 ∷ []) ∷ [])
       ≡ true ∷ true ∷ false ∷ false ∷ false ∷ []
-  pub r6 : fault luma (onLayout (ofColumns (4 ∷ []))) ≡ 6
+  pub rows : map (λ v. virtualBoundariesValid (ofRows v)) ((8 ∷ []) ∷ (4 ∷ []) ∷ (40 ∷ []) ∷ []) ≡ true ∷ false ∷ false ∷ []
+  -- three virtual boundaries, and a fourth, all at least a CTB apart
+  pub fourth : map (virtualListValid 264 32) ((8 ∷ 72 ∷ 136 ∷ []) ∷ (8 ∷ 72 ∷ 136 ∷ 200 ∷ []) ∷ []) ≡ true ∷ false ∷ []
+  pub r6 : map (λ l. fault luma (onLayout l)) (ofColumns (4 ∷ []) ∷ ofRows (4 ∷ []) ∷ []) ≡ 6 ∷ 6 ∷ []
   pub tile-columns : map (λ t. tilesValid (ofTiles t)) ((0 ∷ 1 ∷ []) ∷ (1 ∷ 1 ∷ []) ∷ (0 ∷ 2 ∷ []) ∷ []) ≡ true ∷ false ∷ false ∷ []
-  pub r7 : fault luma (onLayout (ofTiles (0 ∷ 2 ∷ []))) ≡ 7
+  pub tile-rows : map (λ t. tilesValid (ofTileRows t)) ((0 ∷ 1 ∷ []) ∷ (1 ∷ 1 ∷ []) ∷ (0 ∷ 2 ∷ []) ∷ []) ≡ true ∷ false ∷ false ∷ []
+  pub r7 : map (λ l. fault luma (onLayout l)) (ofTiles (0 ∷ 2 ∷ []) ∷ ofTileRows (0 ∷ 2 ∷ []) ∷ []) ≡ 7 ∷ 7 ∷ []
   -- slice maps that the corner rule allows, and numbers that are not below the slice count
   pub slices : map (λ s. slicesValid (ofSlices s)) ((1 ∷ 0 ∷ 0 ∷ 0 ∷ []) ∷ (0 ∷ 0 ∷ 0 ∷ 1 ∷ []) ∷ (0 ∷ 1 ∷ 1 ∷ 0 ∷ [])
       ∷ (0 ∷ 0 ∷ 1 ∷ 1 ∷ []) ∷ []) ≡ replicate 4 true
   pub slice-numbers : map (λ s. slicesValid (ofSlices s)) ((0 ∷ 0 ∷ 0 ∷ 2 ∷ []) ∷ (2 ∷ 0 ∷ 0 ∷ 0 ∷ []) ∷ []) ≡ false ∷ false ∷ []
   pub r8 : fault luma (onLayout (ofSlices (0 ∷ 0 ∷ 0 ∷ 2 ∷ []))) ≡ 8
-  -- the same of subpicture maps, and of switches
+  -- subpicture maps that the corner rule allows, numbers above 63, and switches that are neither 0 nor 1
   pub subpictures : map (λ s. subpicturesValid (ofSubpictures s 0)) ((0 ∷ 63 ∷ 0 ∷ 63 ∷ []) ∷ (0 ∷ 1 ∷ 2 ∷ 3 ∷ []) ∷ (0 ∷ 0 ∷ 1 ∷ 2 ∷ [])
       ∷ (1 ∷ 0 ∷ 0 ∷ 1 ∷ []) ∷ []) ≡ replicate 4 true
   pub subpicture-numbers : map (λ s. subpicturesValid (ofSubpictures s 1)) ((64 ∷ 64 ∷ 64 ∷ 64 ∷ []) ∷ (0 ∷ 0 ∷ 64 ∷ 64 ∷ []) ∷ [])
@@ -131,6 +159,9 @@ pub record Rejections : Type 0 where
       ∷ 5 ∷ 6 ∷ 7 ∷ []) ≡ replicate 8 true
   pub ctb-above : map (λ k. parametersValid (ofCtbNumber k (getD (2 ∷ 2 ∷ 2 ∷ 17 ∷ 8 ∷ 8 ∷ 5 ∷ 5 ∷ []) k 0))) (0 ∷ 1 ∷ 2 ∷ 3 ∷ 4 ∷ 5
       ∷ 6 ∷ 7 ∷ []) ≡ replicate 8 false
+  -- without chroma (chroma mark 0) the luma flag and the luma set may be 1, and the other six numbers of a CTB must be 0
+  pub chroma-zeros : map (λ k. parametersValid (withoutChroma k)) (0 ∷ 1 ∷ 2 ∷ 3 ∷ 4 ∷ 5 ∷ 6 ∷ 7 ∷ [])
+      ≡ true ∷ false ∷ false ∷ true ∷ false ∷ false ∷ false ∷ false ∷ []
   pub r10 : fault luma (onTables (set (zeros 22) 21 8) (zeros 32) flat (zeros 1600) []) ≡ 10
   -- clips up to 2^B, where coefficients end at 127: numbers 12 and 606 of an APS are clips, 0 and 751 coefficients
   pub bank-in : map (λ n. bankNumberValid 8 n (pos 256)) (12 ∷ 606 ∷ []) ++ map (λ n. bankNumberValid 8 n (negsuc 127)) (0 ∷ 751 ∷ [])
@@ -138,7 +169,13 @@ pub record Rejections : Type 0 where
   pub bank-out : bankNumberValid 8 12 (negsuc 0) ∷ bankNumberValid 8 606 (pos 257) ∷ bankNumberValid 8 0 (negsuc 128)
       ∷ bankNumberValid 8 751 (pos 128) ∷ [] ≡ replicate 4 false
   pub r11 : fault luma (onTables (zeros 22) (zeros 32) (set flat 6015 (pos 128)) (zeros 1600) []) ≡ 11
+  -- fixed coefficients from −128 to 127, entries of the fixed map up to 63
+  pub fixed-in : map (fault luma) (ofFixed (negsuc 127) 63 ∷ ofFixed (pos 127) 0 ∷ []) ≡ 0 ∷ 0 ∷ []
+  pub fixed-out : map (fault luma) (ofFixed (negsuc 128) 0 ∷ ofFixed (pos 128) 0 ∷ ofFixed (pos 0) 64 ∷ []) ≡ 11 ∷ 11 ∷ 11 ∷ []
   pub r12 : fault luma (onTables (zeros 22) (zeros 32) flat (set (zeros 1600) 1599 256) []) ≡ 12
+  -- a chroma sample, of either filter that is given chroma
+  pub r12-chroma : fault (chroma 0) (ofChroma (set (zeros 400) 399 256)) ∷ fault (crossComponent 1) (ofCross (set (zeros 400) 399 256)) ∷ []
+      ≡ 12 ∷ 12 ∷ []
   pub r13 : fault luma (onTables (zeros 22) (zeros 32) flat (zeros 1600) (0 ∷ 4 ∷ [])) ≡ 13
   pub r14 : isolationFault (plain good) (set (zeros 25) 24 2) ≡ 14
   -- the lowest of several
@@ -166,10 +203,14 @@ rejections = record {
   counts = refl;
   r5 = refl;
   chroma-lengths = refl;
+  region-lengths = refl;
   r5-output = refl;
   columns = refl;
+  rows = refl;
+  fourth = refl;
   r6 = refl;
   tile-columns = refl;
+  tile-rows = refl;
   r7 = refl;
   slices = refl;
   slice-numbers = refl;
@@ -180,11 +221,15 @@ rejections = record {
   r9 = refl;
   ctb-largest = refl;
   ctb-above = refl;
+  chroma-zeros = refl;
   r10 = refl;
   bank-in = refl;
   bank-out = refl;
   r11 = refl;
+  fixed-in = refl;
+  fixed-out = refl;
   r12 = refl;
+  r12-chroma = refl;
   r13 = refl;
   r14 = refl;
   lowest = refl;

@@ -22,33 +22,33 @@ use Rattle.alf_spec.proofs.Accepted.{accepted, component-of, luma-lengt
 use Rattle.alf_spec.proofs.IsolatedRegions.Inside.{Inside, SameInside, luma-ctb, luma-inside}
 use Rattle.alf_spec.proofs.Ratios.{whole, chroma-ratios, luma-line, chroma-line}
 use Rattle.alf_spec.proofs.IsolatedRegions.Reach.{SameReads}
-use Rattle.alf_spec.proofs.IsolatedRegions.Reads.{same-reads}
+use Rattle.alf_spec.proofs.IsolatedRegions.ReadsStayInside.{same-reads}
 use Rattle.alf_spec.proofs.IsolatedRegions.Samples.{same-class, atLayout, SameFilters, same-luma, same-chroma, same-cross}
 use Rattle.alf_spec.proofs.IsolatedRegions.Results.{index-inside, SameOutput, same-output}
 
--- Two runs of one operation, and a region. Quoted are demand 3 and, where it says so, the scope paper (01). 01: "Of the things that demand
--- 3 wants alike, only those count that the operation is lent, its input planes at the samples inside".
+-- Two runs of one operation, and a region: what the two are alike in. The scope paper (01) asks it only of what the operation is given: "Of
+-- the things that demand 3 wants alike, only those count that the operation is lent, its input planes at the samples inside".
 pub record TwoRuns (op : Operation) (region : List ℕ) (i j : Input) : Type 0 where
-  -- "two inputs accepted for it"; 01: "Accepted means that no numbered cause applies"
+  -- both inputs are accepted; 01: "Accepted means that no numbered cause applies"
   pub firstAccepted : fault op i ≡ 0
   pub secondAccepted : fault op j ≡ 0
-  -- "every region that is isolated in their common boundary tables"; 01: "no open step goes from a sample in it to one outside it"
+  -- the region is isolated in the boundary tables, which both have; 01: "no open step goes from a sample in it to one outside it"
   pub regionIsolated : isolated (i .layout) region ≡ true
-  -- "alike in sizes, CTB exponent, depth, chroma mark, boundary tables"; 01: "The boundary tables are virtual boundaries, tiles, slice map
+  -- sizes, CTB exponent, bit depth, chroma format and boundary tables; 01: "The boundary tables are virtual boundaries, tiles, slice map
   -- with N, subpictures, and the switches"
   pub layout : i .layout ≡ j .layout
-  -- "of slice parameters, bank and fixed tables in those that the operation is given"
+  -- slice parameters, bank and fixed tables
   pub sliceParams : given op .filters ≡ true → i .sliceParams ≡ j .sliceParams
   pub bank : given op .filters ≡ true → i .bank ≡ j .bank
   pub fixedFilters : given op .fixed ≡ true → i .fixedFilters ≡ j .fixedFilters
   pub fixedMap : given op .fixed ≡ true → i .fixedMap ≡ j .fixedMap
-  -- "in all input samples inside that the operation is given"
+  -- the input samples inside; 01: "Inside are the samples that lie in a block whose area byte is 1"
   pub luma : given op .luma ≡ true → SameInside (i .layout) region (lumaPlane (i .layout)) (i .luma) (j .luma)
   pub chroma : given op .chroma ≡ true → SameInside (i .layout) region (chromaPlane (i .layout)) (i .chroma) (j .chroma)
-  -- "every CTB with a sample inside has the same CTB parameters"
+  -- the CTB parameters of each CTB with a sample inside
   pub ctbParams : given op .filters ≡ true → (x y : ℕ) → Inside (i .layout) region (lumaPlane (i .layout)) x y → (n : ℕ) → n < 8
       → ctbParam i (ctbAt (lumaPlane (i .layout)) x y) n ≡ ctbParam j (ctbAt (lumaPlane (i .layout)) x y) n
-  -- "and is listed in both or in neither"; 01: "A CTB is listed when its address stands in the list at least once"
+  -- each CTB with a sample inside is listed in both or in neither; 01: "A CTB is listed when its address stands in the list at least once"
   pub listed : given op .filters ≡ true → (x y : ℕ) → Inside (i .layout) region (lumaPlane (i .layout)) x y
       → elem (address (i .layout) (ctbAt (lumaPlane (i .layout)) x y)) (i .ctbList)
       ≡ elem (address (i .layout) (ctbAt (lumaPlane (i .layout)) x y)) (j .ctbList)
@@ -128,7 +128,7 @@ isolation op region i j runs k h q =
     (λ r. from-reads op region i j r (λ e. reads 1 1 4 whole whole luma-line (i .luma) (j .luma) (runs .luma e))
     (λ e. reads _ _ _ (ratios .0) (ratios .1) (chroma-line (ratios .1)) (i .chroma) (j .chroma) (runs .chroma e)) k h q) runs
 
--- and every place of the output is one of the result
+-- the result of an accepted input is as long as the plane that is the output
 pub result-length : (op : Operation) (i : Input) → fault op i ≡ 0 → length (result op i) ≡ planeLength (outputPlane op (i .layout))
 unfolding result classMap filteredPlane
 result-length classes i q = tabulate-length _ _

@@ -40,7 +40,7 @@ abbrev pub number : Answer → ℕ
 number Accepted = 0
 number (Rejected f) = faultNumber f
 
--- the same of the isolation test, which accepts whether it says isolated or not
+-- the isolation test accepts whether it says isolated or not
 abbrev pub isolationNumber : Isolation → ℕ
 isolationNumber isolation.Isolated = 0
 isolationNumber isolation.NotIsolated = 0
@@ -52,12 +52,12 @@ saysIsolated isolation.Isolated = true
 saysIsolated isolation.NotIsolated = false
 saysIsolated (isolation.Rejected f) = false
 
--- the same of the causes at a luma position
+-- the number of the answer about the causes at a luma position
 abbrev pub causesNumber : ClipCauses → ℕ
 causesNumber (causes.Named c) = 0
 causesNumber (causes.Rejected f) = faultNumber f
 
--- and what it names: nothing where it rejects
+-- the causes that it names: none where it rejects
 abbrev pub causesNamed : ClipCauses → Option SideCauses
 causesNamed (causes.Named c) = some c
 causesNamed (causes.Rejected f) = none
@@ -75,7 +75,7 @@ causeNumber cause.Subpicture = 5
 abbrev pub causeNumbers : SideCauses → List ℕ
 causeNumbers c = causeNumber (c .top) ∷ causeNumber (c .bottom) ∷ causeNumber (c .left) ∷ causeNumber (c .right) ∷ []
 
--- what stands in an output in the end: the new entries where the input is accepted, else what stood there
-abbrev pub kept : ℕ → List ℕ → List ℕ → List ℕ
+-- what stands in an output in the end, by the number that is returned: what is new where the input is accepted, else what stood there
+abbrev pub kept : {A : Type 0} → ℕ → A → A → A
 kept zero new old = new
 kept (suc n) new old = old

@@ -29,15 +29,15 @@ module _ (l : Layout) (c : Ctb) where
   unfoldable pub sliceOf : ℕ
   sliceOf = getD (l .sliceMap) (address l c) 0
 
-  -- its subpicture: 01, a number 0 to 63 per CTB
+  -- the subpicture of a CTB: 01, a number 0 to 63 per CTB
   unfoldable pub subpicOf : ℕ
   subpicOf = getD (l .subpicMap) (address l c) 0
 
-  -- its tile: 01, a tile column number per CTB column
+  -- the tile column of a CTB: 01, a tile column number per CTB column
   unfoldable pub tileColumnOf : ℕ
   tileColumnOf = getD (l .tileColumns) (c .column) 0
 
-  -- and a tile row number per CTB row
+  -- the tile row of a CTB: 01, a tile row number per CTB row
   unfoldable pub tileRowOf : ℕ
   tileRowOf = getD (l .tileRows) (c .row) 0
 
@@ -64,7 +64,7 @@ module _ (l : Layout) (c n : Ctb) where
 abbrev pub besideCtb : Side → Ctb → Ctb
 besideCtb d c = record { column = next d (c .column); row = c .row }
 
--- the CTB above or below
+-- the CTB above or below c
 abbrev pub stackedCtb : Side → Ctb → Ctb
 stackedCtb d c = record { column = c .column; row = next d (c .row) }
 
@@ -76,7 +76,7 @@ diagonalCtb d c = record { column = next d (c .column); row = next d (c .row) }
 unfoldable pub columnSide : Layout → Ctb → Side → ClipCause
 columnSide l c d = cond (hasNext (ctbColumns l) d (c .column)) (stepCause l c (besideCtb d c)) Open
 
--- across its top or bottom
+-- why filtering across the top or bottom of a CTB is disabled, or open
 unfoldable pub rowSide : Layout → Ctb → Side → ClipCause
 rowSide l c d = cond (hasNext (ctbRows l) d (c .row)) (stepCause l c (stackedCtb d c)) Open
 
@@ -84,11 +84,11 @@ rowSide l c d = cond (hasNext (ctbRows l) d (c .row)) (stepCause l c (stackedCtb
 abbrev pub columnDisabled : Layout → Ctb → Side → Bool
 columnDisabled l c d = disables (columnSide l c d)
 
--- across its top or bottom
+-- (01: closed) filtering across the top or bottom of a CTB is disabled
 abbrev pub rowDisabled : Layout → Ctb → Side → Bool
 rowDisabled l c d = disables (rowSide l c d)
 
--- across its upper left or lower right corner, by slices alone: clipTopLeftFlag, clipBotRightFlag
+-- filtering across the upper left or lower right corner of a CTB is disabled, by slices alone: clipTopLeftFlag, clipBotRightFlag
 unfoldable pub cornerDisabled : Layout → Ctb → Side → Bool
 cornerDisabled l c d = hasNext (ctbColumns l) d (c .column) && (hasNext (ctbRows l) d (c .row) && sliceDisables l c (diagonalCtb d c))
 

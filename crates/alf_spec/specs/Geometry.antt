@@ -124,7 +124,7 @@ indexOf g x y = y * samples (g .columns) + x
 abbrev pub columnOf : Plane → ℕ → ℕ
 columnOf g k = k % samples (g .columns)
 
--- and its row
+-- the row of the sample at index k
 abbrev pub rowOf : Plane → ℕ → ℕ
 rowOf g k = k / samples (g .columns)
 

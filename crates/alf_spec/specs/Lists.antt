@@ -37,7 +37,7 @@ unfoldable pub sumBelow : ℕ → (ℕ → ℕ) → ℕ
 sumBelow zero f = 0
 sumBelow (suc n) f = sumBelow n f + f n
 
--- the same of integers
+-- f 0 + .. + f (n - 1), a sum of integers
 unfoldable pub sumBelowℤ : ℕ → (ℕ → ℤ) → ℤ
 sumBelowℤ zero f = pos 0
 sumBelowℤ (suc n) f = sumBelowℤ n f +ℤ f n

@@ -63,7 +63,7 @@ module _ (l : Layout) (g : Plane) (x y : ℕ) where
     clampedRow = clamped (g .rows) rowClip q
 
     -- 01: where top and left have no edge, the slice switch is off and the upper-left CTB is of another slice, a neighbour left of and
-    -- above the CTB; the lower right likewise
+    -- above the CTB; at the lower right, a neighbour right of and below it
     unfoldable pub pastCorner : Side → Bool
     pastCorner d =
         pastCtb (g .columns) d x clampedColumn

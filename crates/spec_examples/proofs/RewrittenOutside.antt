@@ -135,7 +135,7 @@ pub record RewrittenOutside : Type 0 where
   pub filtered-inside : getD (result luma first) 0 0 ∷ getD (result luma first) 1 0 ∷ [] ≡ 4 ∷ 0 ∷ []
   -- what was rewritten has an effect outside
   pub differ-outside : getD (result luma first) 32 0 ∷ getD (result luma second) 32 0 ∷ [] ≡ 0 ∷ 54 ∷ []
-  -- and it would have one inside, beside the border, were the left switch on
+  -- what was rewritten would have an effect inside, beside the border, were the left switch on
   pub differ-if-open : getD (result luma (before (subpictures 1))) 31 0 ∷ getD (result luma (after (subpictures 1))) 31 0 ∷ [] ≡ 0 ∷ 50 ∷ []
 
 pub rewritten-outside : RewrittenOutside
@@ -147,7 +147,7 @@ unfolding everyFrom allBelow elem sumBelow sumBelowℤ tabulate painted clip3 di
     lumaRows lumaPlus lumaMinus lumaWith lumaSample lumaOn isFiltered atIndex filteredPlane result
 rewritten-outside = record { filtered-inside = refl; differ-outside = refl; differ-if-open = refl }
 
--- the switch is off, and by the claim there is none
+-- the left switch is off, and by the isolation claim nothing that was rewritten has an effect inside, beside the border
 pub beside-border : getD (result luma first) 31 0 ≡ getD (result luma second) 31 0
 unfolding tabulate ctbSize planeOf subpicOf inside regionOf subpicRegion outputInside
 beside-border = isolation luma region first second runs 31 (ltb-true 31 512 refl) refl

@@ -1,8 +1,28 @@
 -- `alf_op_isolated::isolated` meets its contract. Assumes nothing.
+use mathlib.Core.Path.{sym, _∙_}
+use mathlib.Core.Bool.{false}
 use borrow.Author.Needs.{needs}
-use Rattle.alf_spec.proofs.Answers.{accepts, rejects, finds}
+use Rattle.alf_spec.proofs.Answers.{accepts, stays, written}
 use Rattle.alf_op_isolated.proofs.isolated.Statement.{statement}
 use Rattle.alf_op_isolated.proofs.isolated.Tie as tie
+
+rejected : tie.Need-returns
+rejected c =
+    let told = c .before in
+    let judged = told .before .before .judge-isolation in
+    stays (judged .result) (judged .ensures) (told .answer .given .1) _
+
+isolated-told : tie.Need-returns-2
+isolated-told c =
+    let told = c .before .before in
+    let judged = told .before .before .judge-isolation in
+    written (judged .result) (judged .ensures) (told .enum-told .given .1) false (sym (c .if1 .taken) ∙ c .before .region-isolated .ensures)
+
+open-told : tie.Need-returns-3
+open-told c =
+    let told = c .before .before in
+    let judged = told .before .before .judge-isolation in
+    written (judged .result) (judged .ensures) (told .enum-told .given .1) false (sym (c .if1 .left) ∙ c .before .region-isolated .ensures)
 
 pub isolated-spec : {M : Type 1} → statement M
 isolated-spec =
@@ -10,13 +30,8 @@ isolated-spec =
     (tie.spec
     (λ c κs. search needs)
     (λ c. search needs)
-    (λ c. rejects (c .before .before .before .judge-isolation .result) (c .before .before .before .judge-isolation .ensures)
-    (c .before .answer .given .1) _)
+    rejected
     (λ c. search needs)
-    (λ c κs. accepts (c .before .before .judge-isolation .result) (c .before .before .judge-isolation .ensures) (c .enum-told .given .1))
-    (λ c.
-    finds (c .before .before .before .before .judge-isolation .result) (c .before .before .before .before .judge-isolation .ensures)
-    (c .before .before .enum-told .given .1) (c .before .region-isolated .ensures) (c .if1 .taken))
-    (λ c.
-    finds (c .before .before .before .before .judge-isolation .result) (c .before .before .before .before .judge-isolation .ensures)
-    (c .before .before .enum-told .given .1) (c .before .region-isolated .ensures) (c .if1 .left)))
+    (λ c κs. let judged = c .before .before .judge-isolation in accepts (judged .result) (judged .ensures) (c .enum-told .given .1))
+    isolated-told
+    open-told)

@@ -1,4 +1,4 @@
--- The clamping of a neighbour to the clip positions of a sample ensures what `Ways` asks, on either side, along either axis, and for a
+-- The clamping of a neighbour to the clip positions of a sample ensures what `ReadPaths` asks, on either side, along either axis, and for a
 -- plane of either ratio. Assumes nothing.
 use mathlib.Core.Path.{_≡_, refl, ap}
 use mathlib.Core.Logic.{_↔_, _≢_}
@@ -15,7 +15,7 @@ use Rattle.alf_spec.proofs.Ratios.{Ratio, LineFits, own-le, le-own, own
 use Rattle.alf_spec.proofs.IsolatedRegions.Reach.{Reach}
 use Rattle.alf_spec.proofs.IsolatedRegions.ClipPositions.{Ends, stops, runs, Near, Stop, bound, bound8, Free, clip-ends}
 use Rattle.alf_spec.proofs.IsolatedRegions.PastCtb.{Between, leaves, past}
-use Rattle.alf_spec.proofs.IsolatedRegions.Ways.{Guarded}
+use Rattle.alf_spec.proofs.IsolatedRegions.ReadPaths.{Guarded}
 
 clear-of : (d : Side) (x b u : ℕ) → Toward d x u → ¬ Between d x b u → (b ≤ x) ↔ (b ≤ u)
 clear-of before x b u t f = (λ h. not-gt (λ l. f (h, l)), λ h. omega arith)
@@ -70,7 +70,7 @@ module _ (a : Axis) (ok : Regular a) (ratio : Ratio (a .ratio)) (fits : LineFits
   pub kept : (lowest a (clip before) ≤ u) × (u < limit a (clip after)) × (u < samples a)
   kept = omega (arith, low, high)
 
-  -- and brings the neighbour toward the sample, not past it
+  -- clamping brings the neighbour toward the sample, not past it
   drawn : (d : Side) → Toward d x p → Toward d x u × Toward d u p
   drawn before t = omega (arith, low, high)
   drawn after t = omega (arith, low, high)

@@ -31,7 +31,7 @@ map-ends : {G G′ : ℕ → Type 0} {N N′ : Type 0} {o : Option ℕ} → ((e 
 map-ends h f (stops g) = stops (h _ g)
 map-ends h f (runs n) = runs (f n)
 
--- the same of a clip, by its position
+-- the position of the clip that an option holds, if any, is a G; if it holds none, N
 data ClipEnds (G : ℕ → Type 0) (N : Type 0) : Option Clip → Type 0 where
   at : {c : Clip} → G (c .position) → ClipEnds G N (some c)
   nowhere : N → ClipEnds G N none

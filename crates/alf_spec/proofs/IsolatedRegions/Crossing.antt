@@ -1,4 +1,5 @@
--- Two axes: an isolated region holds what two ways lead to, along cells and over at most one side or corner of a CTB. Assumes nothing.
+-- Two axes: what is read for a sample inside an isolated region lies inside, where a path along each axis leads to it: along uncut
+-- stretches and over at most one side or corner of a CTB. Assumes nothing.
 use mathlib.Core.Path.{_≡_, refl, sym, _∙_, subst₂}
 use mathlib.Core.Logic.{_≢_}
 use mathlib.Core.Bool.{Bool, true, false, not, _&&_}
@@ -14,12 +15,12 @@ use Rattle.alf_spec.specs.Isolation.{openStep, columnStep, rowStep, diag
 use Rattle.alf_spec.proofs.Tests.{and-no}
 use Rattle.alf_spec.proofs.Accepted.{AcceptedLayout}
 use Rattle.alf_spec.proofs.Axes.{Regular, regular-columns, regular-rows}
-use Rattle.alf_spec.proofs.IsolatedRegions.Cells.{Cell, Closed, walk}
+use Rattle.alf_spec.proofs.IsolatedRegions.UncutStretches.{Uncut, CarriedAlong, walk}
 use Rattle.alf_spec.proofs.IsolatedRegions.Steps.{open-step, next-ctb}
-use Rattle.alf_spec.proofs.IsolatedRegions.Held.{Held, held-column, held-row, held-diagonal}
-use Rattle.alf_spec.proofs.IsolatedRegions.Ways.{Over, Way, here, over}
+use Rattle.alf_spec.proofs.IsolatedRegions.StepsStayInside.{LumaInside, column-stays, row-stays, diagonal-stays}
+use Rattle.alf_spec.proofs.IsolatedRegions.ReadPaths.{Over, ReadPath, here, over}
 
--- a step within a cell is open, both ways
+-- a step within a stretch is open, there and back
 inner : (a : Axis) (disabled disabled′ : Side → Bool) (b : ℕ) → suc b < a .size → ¬ List·Memᴰ (suc b) (a .virtualBoundaries)
     → b / a .ctb ≡ suc b / a .ctb → (openStep a disabled after b ≡ true) × (openStep a disabled′ before (suc b) ≡ true)
 inner a disabled disabled′ b hi free q = (
@@ -82,53 +83,54 @@ module _ (l : Layout) (ok : AcceptedLayout l) (columnRatio rowRatio line : ℕ) 
       rw (x .0, y .0, ← q) (and-no _ _ (and-no _ _ f (x .1)) h)
 
   module _ (region : List ℕ) (iso : isolated l region ≡ true) where
-    closedX : (y : ℕ) → Closed columns (λ x. Held l region x y)
-    unfolding Closed
-    closedX y b hi free q =
+    carriedX : (y : ℕ) → CarriedAlong columns (λ x. LumaInside l region x y)
+    unfolding CarriedAlong
+    carriedX y b hi free q =
         let o = inner columns (columnDisabled l (ctbHolding l b y)) (columnDisabled l (ctbHolding l (suc b) y)) b hi free q in (
-          λ r. held-column l region iso b y r after (column-step l columnRatio rowRatio line b y after (o .0)),
-          λ r. held-column l region iso (suc b) y r before (column-step l columnRatio rowRatio line (suc b) y before (o .1)),
+          λ r. column-stays l region iso b y r after (column-step l columnRatio rowRatio line b y after (o .0)),
+          λ r. column-stays l region iso (suc b) y r before (column-step l columnRatio rowRatio line (suc b) y before (o .1)),
         )
 
-    closedY : (x : ℕ) → Closed rows (λ y. Held l region x y)
-    unfolding Closed
-    closedY x b hi free q =
+    carriedY : (x : ℕ) → CarriedAlong rows (λ y. LumaInside l region x y)
+    unfolding CarriedAlong
+    carriedY x b hi free q =
         let o = inner rows (rowDisabled l (ctbHolding l x b)) (rowDisabled l (ctbHolding l x (suc b))) b hi free q in (
-          λ r. held-row l region iso x b r after (row-step l columnRatio rowRatio line x b after (o .0)),
-          λ r. held-row l region iso x (suc b) r before (row-step l columnRatio rowRatio line x (suc b) before (o .1)),
+          λ r. row-stays l region iso x b r after (row-step l columnRatio rowRatio line x b after (o .0)),
+          λ r. row-stays l region iso x (suc b) r before (row-step l columnRatio rowRatio line x (suc b) before (o .1)),
         )
 
-    walkX : {x u y : ℕ} → Cell columns x u → Held l region x y → Held l region u y
-    walkX {x} {u} {y} = walk columns okX (λ x. Held l region x y) (closedX y)
+    walkX : {x u y : ℕ} → Uncut columns x u → LumaInside l region x y → LumaInside l region u y
+    walkX {x} {u} {y} = walk columns okX (λ x. LumaInside l region x y) (carriedX y)
 
-    walkY : {x y v : ℕ} → Cell rows y v → Held l region x y → Held l region x v
-    walkY {x} {y} {v} = walk rows okY (λ y. Held l region x y) (closedY x)
+    walkY : {x y v : ℕ} → Uncut rows y v → LumaInside l region x y → LumaInside l region x v
+    walkY {x} {y} {v} = walk rows okY (λ y. LumaInside l region x y) (carriedY x)
 
-    module _ (d e : Side) (x y u v : ℕ) (r : Held l region x y) where
+    module _ (d e : Side) (x y u v : ℕ) (r : LumaInside l region x y) where
       -- what is said of the CTB holds at each of its samples
-      carry : {m n : ℕ} → Cell columns x m → Cell rows y n → (F : Ctb → Type 0) → F (ctbHolding l x y) → F (ctbHolding l m n)
+      carry : {m n : ℕ} → Uncut columns x m → Uncut rows y n → (F : Ctb → Type 0) → F (ctbHolding l x y) → F (ctbHolding l m n)
       unfolding planeOf
       carry c k F = subst₂ (λ (i j : ℕ). F (record { column = i; row = j })) (c .ctb) (k .ctb)
 
-      -- so a step over its side is open at each
-      stepX : {m n : ℕ} → Over columns (columnDisabled l (ctbHolding l x y)) d x u m → Cell columns x m → Cell rows y n
+      -- a step over the CTB's side that is open at one of its samples is open at each
+      stepX : {m n : ℕ} → Over columns (columnDisabled l (ctbHolding l x y)) d x u m → Uncut columns x m → Uncut rows y n
           → columnStep l m n d ≡ true
       stepX {m} {n} o c k = column-step l columnRatio rowRatio line m n d
           (carry c k (λ ctb. openStep columns (columnDisabled l ctb) d m ≡ true) (o .step))
 
-      stepY : {m n : ℕ} → Over rows (rowDisabled l (ctbHolding l x y)) e y v n → Cell columns x m → Cell rows y n → rowStep l m n e ≡ true
+      stepY : {m n : ℕ} → Over rows (rowDisabled l (ctbHolding l x y)) e y v n → Uncut columns x m → Uncut rows y n → rowStep l m n e ≡ true
       stepY {m} {n} w c k = row-step l columnRatio rowRatio line m n e
           (carry c k (λ ctb. openStep rows (rowDisabled l ctb) e n ≡ true) (w .step))
 
-      -- the one claim about two axes: first along cells, then over a side or a corner, if any, then along cells again
-      pub arrive : Way columns (columnDisabled l (ctbHolding l x y)) d x u → Way rows (rowDisabled l (ctbHolding l x y)) e y v
+      -- the one claim about two axes: first along stretches, then over a side or a corner, if any, then along stretches again
+      pub arrive : ReadPath columns (columnDisabled l (ctbHolding l x y)) d x u → ReadPath rows (rowDisabled l (ctbHolding l x y)) e y v
           → (x / columns .ctb ≢ u / columns .ctb → y / rows .ctb ≢ v / rows .ctb → d ≡ e → cornerDisabled l (ctbHolding l x y) d ≡ false)
-          → Held l region u v
+          → LumaInside l region u v
       arrive (here c) (here k) f = walkY k (walkX c r)
-      arrive (over m o) (here k) f = walkX (o .outer) (held-column l region iso m v (walkY k (walkX (o .inner) r)) d (stepX o (o .inner) k))
-      arrive (here c) (over n w) f = walkY (w .outer) (held-row l region iso u n (walkY (w .inner) (walkX c r)) e (stepY w c (w .inner)))
+      arrive (over m o) (here k) f =
+          walkX (o .outer) (column-stays l region iso m v (walkY k (walkX (o .inner) r)) d (stepX o (o .inner) k))
+      arrive (here c) (over n w) f = walkY (w .outer) (row-stays l region iso u n (walkY (w .inner) (walkX c r)) e (stepY w c (w .inner)))
       arrive (over m o) (over n w) f =
-          walkY (w .outer) (walkX (o .outer) (held-diagonal l region iso m n (walkY (w .inner) (walkX (o .inner) r)) d e
+          walkY (w .outer) (walkX (o .outer) (diagonal-stays l region iso m n (walkY (w .inner) (walkX (o .inner) r)) d e
           (diagonal-step l d e m n (stepX o (o .inner) (w .inner)) (stepY w (o .inner) (w .inner)) (λ q. corner-open d e m n q
           (o .low) (o .high) (λ s. o .other (o .inner .ctb ∙ s ∙ o .outer .ctb))
           (w .low) (w .high) (λ s. w .other (w .inner .ctb ∙ s ∙ w .outer .ctb))

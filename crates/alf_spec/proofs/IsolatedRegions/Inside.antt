@@ -28,12 +28,12 @@ module _ (l : Layout) (columnRatio rowRatio line : ℕ) where
   abbrev g : Plane
   g = planeOf l columnRatio rowRatio line
 
-  -- is of the same CTB
+  -- the luma sample is of the same CTB
   pub luma-ctb : (x y : ℕ) → ctbAt (lumaPlane l) (lumaPosition (g .columns) x) (lumaPosition (g .rows) y) ≡ ctbAt g x y
   unfolding planeOf
   luma-ctb x y = simp mul-one
 
-  -- and lies inside where the sample does
+  -- the luma sample lies inside where the sample does
   pub luma-inside : (region : List ℕ) (x y : ℕ) → Inside l region g x y
       → Inside l region (lumaPlane l) (lumaPosition (g .columns) x) (lumaPosition (g .rows) y)
   unfolding planeOf

@@ -8,10 +8,10 @@ use borrow.Author.Tests.{ltb-true, lt-ltb}
 use Rattle.alf_spec.specs.Geometry.{Side, before, after, Axis, lumaPosition, ctbStart}
 use Rattle.alf_spec.specs.Padding.{ctbEnd, pastCtb}
 use Rattle.alf_spec.proofs.Axes.{not-gt, Regular, lower, upper, ctb-of, past-end}
-use Rattle.alf_spec.proofs.IsolatedRegions.Cells.{Cell, part}
+use Rattle.alf_spec.proofs.IsolatedRegions.UncutStretches.{Uncut, part}
 use Rattle.alf_spec.proofs.Ratios.{Ratio, boundary, own-lt, lt-own, last-own, last-in, Toward}
 use Rattle.alf_spec.proofs.IsolatedRegions.ClipPositions.{bound, bound-even}
-use Rattle.alf_spec.proofs.IsolatedRegions.Ways.{outermost}
+use Rattle.alf_spec.proofs.IsolatedRegions.ReadPaths.{outermost}
 
 -- the boundary b is crossed on the way from x to u
 abbrev pub Between : Side → ℕ → ℕ → ℕ → Type 0
@@ -54,7 +54,7 @@ module _ (a : Axis) (ok : Regular a) (ratio : Ratio (a .ratio)) (x u : ℕ) wher
   past-other before q e = omega (arith, lower a U, beyond before q, ap (λ (n : ℕ). n * a .ctb) e)
   past-other after q e = omega (arith, upper a ok U, beyond after q, ap (λ (n : ℕ). n * a .ctb) e)
 
-  -- and on that side
+  -- what lies past the CTB on a side lies on that side of the sample
   pub past-side : (d e : Side) → Toward d X U → pastCtb a e x u ≡ true → d ≡ e
   past-side before before t q = refl
   past-side before after t q = absurd (omega (arith, upper a ok X, beyond after q))
@@ -62,13 +62,13 @@ module _ (a : Axis) (ok : Regular a) (ratio : Ratio (a .ratio)) (x u : ℕ) wher
   past-side after after t q = refl
 
 -- the corner rule moves a column within the CTB
-pub end-cell : (a : Axis) → Regular a → Ratio (a .ratio) → (d : Side) (x m : ℕ) → outermost a d (lumaPosition a x) ≡ m
-    → Cell a (lumaPosition a x) m
-    → Cell a (lumaPosition a x) (lumaPosition a (ctbEnd a d x))
-end-cell a ok ratio before x m q c =
+pub end-uncut : (a : Axis) → Regular a → Ratio (a .ratio) → (d : Side) (x m : ℕ) → outermost a d (lumaPosition a x) ≡ m
+    → Uncut a (lumaPosition a x) m
+    → Uncut a (lumaPosition a x) (lumaPosition a (ctbEnd a d x))
+end-uncut a ok ratio before x m q c =
     let start = ctbStart a (lumaPosition a x) in
     rw (boundary (a .ratio) ratio start (bound-even a ok (lumaPosition a x) before), q) c
-end-cell a ok ratio after x m q c =
+end-uncut a ok ratio after x m q c =
     let start = ctbStart a (lumaPosition a x) in
     let even = bound-even a ok (lumaPosition a x) before in
     let h = last-in (a .ratio) ratio start (a .ctb) x even (ok .ctb8) (ok .big) (upper a ok (lumaPosition a x)) in

@@ -18,11 +18,13 @@ slanted-small c = let p = c .before .before .pre in
 level-small : (c : tie.After-activity) → c .activity .result < 5
 level-small c = rw (c .activity .ensures) (activity-small _ _ _)
 
+-- where both gradients are known
+abbrev slanted : tie.After-is-diagonal → tie.After-larger2
+slanted c = c .before .before .before
+
 -- what the test says of the sums
-tested : (c : tie.After-is-diagonal) → let s = c .before .before .before .before .before .args .s in
-    c .is-diagonal .result ≡ diagonal (dd s) (hv s)
-tested c = rw (← c .before .before .before .before .larger .ensures, ← c .before .before .before .larger2 .ensures)
-    (c .is-diagonal .ensures)
+tested : (c : tie.After-is-diagonal) → let s = slanted c .before .before .args .s in c .is-diagonal .result ≡ diagonal (dd s) (hv s)
+tested c = rw (← slanted c .before .larger .ensures, ← slanted c .larger2 .ensures) (c .is-diagonal .ensures)
 
 returns : tie.Need-returns
 unfolding classOfSums

@@ -23,7 +23,7 @@ accepted s = accepted-position (layout s) (s .args .x) (s .args .y) (s .pre)
 
 -- what the function is given, seen from where the grid is known
 abbrev start : tie.After-grid → tie.Start
-start c = c .before .before .before .before .before .before .before .before
+start c = search needs
 
 -- the position is small enough for the rule
 small : (c : tie.After-grid) → let ctb = c .grid .result .ctb in
@@ -38,8 +38,8 @@ returns c =
     let left = c .before in
     let bottom = left .before in
     let top = bottom .before in
-    let known = top .before .before .before .before .before in
-    let g = known .before .before .before in
+    let known : tie.After-sides-of = search needs in
+    let g : tie.After-grid = search needs in
     let s = start g in
     let ok = accepted s in
     let sides = known .sides-of .ensures (s .args .virtual-columns .now) (s .args .virtual-rows .now) in

@@ -1,4 +1,4 @@
--- What an isolated region holds: with a sample, every sample that an open step leads to. Assumes nothing.
+-- An open step from a luma sample inside an isolated region ends inside it. Assumes nothing.
 use mathlib.Core.Path.{_≡_}
 use mathlib.Core.Bool.{true}
 use mathlib.Core.List.{List}
@@ -10,8 +10,8 @@ use Rattle.alf_spec.proofs.Tests.{both, implied, all-at}
 use Rattle.alf_spec.proofs.IsolatedRegions.EightSteps.{Eight, eight-steps}
 use Rattle.alf_spec.proofs.IsolatedRegions.Steps.{next-below, opened}
 
--- the luma sample at column x and row y lies in the picture and in the region
-pub record Held (l : Layout) (region : List ℕ) (x y : ℕ) : Type 0 where
+-- the luma sample at column x and row y lies in the picture and in the region: `Inside` of the luma plane, without its ratio
+pub record LumaInside (l : Layout) (region : List ℕ) (x y : ℕ) : Type 0 where
   pub column : x < l .picture .width
   pub row : y < l .picture .height
   pub position : inside l region x y ≡ true
@@ -25,7 +25,7 @@ module _ (l : Layout) (x y : ℕ) where
   unfolding rowStep planeOf
   row-below e q = next-below _ e y (opened (lumaPlane l .rows) _ e y q .1)
 
-module _ (l : Layout) (region : List ℕ) (iso : isolated l region ≡ true) (x y : ℕ) (h : Held l region x y) where
+module _ (l : Layout) (region : List ℕ) (iso : isolated l region ≡ true) (x y : ℕ) (h : LumaInside l region x y) where
   stays : Eight (columnStep l x y) (λ d. inside l region (next d x) y) (rowStep l x y) (λ e. inside l region x (next e y))
       (diagonalStep l x y) (λ d e. inside l region (next d x) (next e y))
   unfolding isolated staysInside
@@ -33,23 +33,23 @@ module _ (l : Layout) (region : List ℕ) (iso : isolated l region ≡ true) (x 
       eight-steps _ _ _ _ _ _
       (implied (inside l region x y) (staysInside l region x y) (all-at _ _ (all-at _ _ iso y (h .row)) x (h .column)) (h .position))
 
-  pub held-column : (d : Side) → columnStep l x y d ≡ true → Held l region (next d x) y
-  held-column d q = record {
+  pub column-stays : (d : Side) → columnStep l x y d ≡ true → LumaInside l region (next d x) y
+  column-stays d q = record {
     column = column-below l x y d q;
     row = h .row;
     position = stays .column d q;
   }
 
-  pub held-row : (e : Side) → rowStep l x y e ≡ true → Held l region x (next e y)
-  held-row e q = record {
+  pub row-stays : (e : Side) → rowStep l x y e ≡ true → LumaInside l region x (next e y)
+  row-stays e q = record {
     column = h .column;
     row = row-below l x y e q;
     position = stays .row e q;
   }
 
-  pub held-diagonal : (d e : Side) → diagonalStep l x y d e ≡ true → Held l region (next d x) (next e y)
+  pub diagonal-stays : (d e : Side) → diagonalStep l x y d e ≡ true → LumaInside l region (next d x) (next e y)
   unfolding diagonalStep
-  held-diagonal d e q =
+  diagonal-stays d e q =
       let c = both (columnStep l x y d) _ q in
       record {
         column = column-below l x y d (c .0);

@@ -1,4 +1,4 @@
--- What the answer about a luma position says of the number returned and of what is written. Assumes nothing.
+-- What the answer about a luma position says of the number returned and of the causes that are written. Assumes nothing.
 use mathlib.Core.Path.{_≡_, refl, sym, _∙_, ap}
 use mathlib.Core.Bool.{Bool, true, false, _&&_, cond}
 use mathlib.Core.List.{List, [], _∷_}
@@ -17,7 +17,7 @@ use Rattle.alf_spec.specs.Faults.{pictureSizeValid, ctbSizeValid, bitDepthValid
 use Rattle.alf_spec.specs.Faults.{virtualBoundariesValid, tilesValid, slicesValid, subpicturesValid, positionValid, unless, layoutFault}
 use Rattle.alf_spec.specs.Faults.{causesFault}
 use Rattle.alf_spec.specs.Answers.{faultNumber, causesNumber, causesNamed, causeNumbers, kept}
-use Rattle.alf_spec.proofs.Answers.{numbered}
+use Rattle.alf_spec.proofs.Answers.{kept-old, kept-new}
 use Rattle.alf_c.specs.Calls.{withoutRoom}
 
 -- ---- the fault of the room
@@ -59,9 +59,9 @@ room-fault l x y =
     .is
 
 -- it is a fault, so nothing is written
-kept-old : (n : ℕ) (new old : List ℕ) → old ≡ kept (withoutRoom n) new old
-kept-old zero new old = refl
-kept-old (suc n) new old = by (ltb 0 (suc n) && ltb (suc n) 5)
+room-kept : (n : ℕ) (new old : List ℕ) → old ≡ kept (withoutRoom n) new old
+room-kept zero new old = refl
+room-kept (suc n) new old = by (ltb 0 (suc n) && ltb (suc n) 5)
   where
     by : (t : Bool) → old ≡ kept (cond t (suc n) 5) new old
     by true = refl
@@ -69,7 +69,7 @@ kept-old (suc n) new old = by (ltb 0 (suc n) && ltb (suc n) 5)
 
 -- ---- what is written
 
--- four numbers, to a list of four
+-- four stores fill a list of four
 four-set : (xs : List ℕ) → length xs ≡ 4 → (a b c d : ℕ) → set (set (set (set xs 0 a) 1 b) 2 c) 3 d ≡ a ∷ b ∷ c ∷ d ∷ []
 four-set (w ∷ x ∷ y ∷ z ∷ []) e a b c d = refl
 four-set [] e a b c d = absurd (omega arith)
@@ -78,7 +78,7 @@ four-set (w ∷ x ∷ []) e a b c d = absurd (omega arith)
 four-set (w ∷ x ∷ y ∷ []) e a b c d = absurd (omega arith)
 four-set (w ∷ x ∷ y ∷ z ∷ v ∷ vs) e a b c d = absurd (omega arith)
 
--- and to no other
+-- where there is room for four, they are what is written
 pub four-written : (xs : List ℕ) → length xs ≡ 4 → {a b c d : ℕ} {new : List ℕ} → a ∷ b ∷ c ∷ d ∷ [] ≡ new
     → set (set (set (set xs 0 a) 1 b) 2 c) 3 d ≡ cond (eqb (length xs) 4) new xs
 four-written xs e {a} {b} {c} {d} h = rw (eq-eqb (length xs) 4 e) (four-set xs e a b c d ∙ h)
@@ -91,20 +91,20 @@ held c none = c
 -- ---- the operation's answer a, the number n without the room's fault, and the causes c
 
 module _ (a : ClipCauses) (l : Layout) (x y : ℕ) (c : SideCauses) (e : causesNumber a ≡ causesFault l true x y)
-    (s : causesNamed a ≡ cond (eqb (causesFault l true x y) 0) (some c) none) {room : Bool} (old : List ℕ) where
+    (s : causesNamed a ≡ kept (causesFault l true x y) (some c) none) {room : Bool} (old : List ℕ) where
   pub no-room : room ≡ false → {n r : ℕ} → n ≡ causesNumber a → r ≡ withoutRoom n
       → (r ≡ causesFault l room x y) × (old ≡ kept (causesFault l room x y) (causeNumbers c) old)
   no-room f {n} {r} h w =
       let same : withoutRoom n ≡ causesFault l room x y = ap withoutRoom (h ∙ e) ∙ room-fault l x y
       ∙ ap (λ (t : Bool). causesFault l t x y) (sym f) in
-      (w ∙ same, rw (← same) (kept-old n (causeNumbers c) old))
+      (w ∙ same, rw (← same) (room-kept n (causeNumbers c) old))
 
   pub named : room ≡ true → {k : SideCauses} → a ≡ causes.Named k → {new : List ℕ} → new ≡ cond room (causeNumbers k) old
       → (0 ≡ causesFault l room x y) × (new ≡ kept (causesFault l room x y) (causeNumbers c) old)
   unfolding held
   named f {k} q h =
       let none-there : 0 ≡ causesFault l true x y = sym (ap causesNumber q) ∙ e in
-      let said : some k ≡ some c = sym (ap causesNamed q) ∙ s ∙ ap (λ (n : ℕ). cond (eqb n 0) (some c) none) (sym none-there) in
+      let said : some k ≡ some c = sym (ap causesNamed q) ∙ s ∙ sym (kept-new none-there none refl) in
       let same : k ≡ c = ap (held c) said in
       (none-there ∙ ap (λ (t : Bool). causesFault l t x y) (sym f), rw (f, ← none-there) (rw f at h ∙ ap causeNumbers same))
 
@@ -112,4 +112,4 @@ module _ (a : ClipCauses) (l : Layout) (x y : ℕ) (c : SideCauses) (e : causesN
       → (r ≡ causesFault l room x y) × (old ≡ kept (causesFault l room x y) (causeNumbers c) old)
   refused t {f} q h =
       let same : faultNumber f ≡ causesFault l room x y = sym (ap causesNumber q) ∙ e ∙ ap (λ (b : Bool). causesFault l b x y) (sym t) in
-      (h ∙ same, rw (← same, numbered f))
+      (h ∙ same, kept-old f same (causeNumbers c))

@@ -16,13 +16,13 @@ use Rattle.alf_spec.proofs.Tests.{both, and-no}
 use Rattle.alf_spec.proofs.Accepted.{AcceptedLayout}
 use Rattle.alf_spec.proofs.Axes.{Regular, regular-columns, regular-rows}
 use Rattle.alf_spec.proofs.IsolatedRegions.Clamping.{guarded, crossed}
-use Rattle.alf_spec.proofs.IsolatedRegions.PastCtb.{past-other, past-side, end-cell}
+use Rattle.alf_spec.proofs.IsolatedRegions.PastCtb.{past-other, past-side, end-uncut}
 use Rattle.alf_spec.proofs.Ratios.{Ratio, LineFits, no-line, own-lt, lt-own, Toward}
 use Rattle.alf_spec.proofs.IsolatedRegions.Crossing.{arrive}
-use Rattle.alf_spec.proofs.IsolatedRegions.Held.{Held}
+use Rattle.alf_spec.proofs.IsolatedRegions.StepsStayInside.{LumaInside}
 use Rattle.alf_spec.proofs.IsolatedRegions.Inside.{Inside, SameInside}
 use Rattle.alf_spec.proofs.IsolatedRegions.Reach.{Reach, SameReads}
-use Rattle.alf_spec.proofs.IsolatedRegions.Ways.{Guarded, Way, here, over, way}
+use Rattle.alf_spec.proofs.IsolatedRegions.ReadPaths.{Guarded, ReadPath, here, over, read-path}
 
 module _ (l : Layout) (ok : AcceptedLayout l) (region : List ℕ) (iso : isolated l region ≡ true) (columnRatio rowRatio line : ℕ)
     (rc : Ratio columnRatio) (rr : Ratio rowRatio) (rl : LineFits line) where
@@ -52,7 +52,7 @@ module _ (l : Layout) (ok : AcceptedLayout l) (region : List ℕ) (iso : isolate
   lineY = rl
 
   -- the plane's own samples and their luma positions
-  to-luma : (x y : ℕ) → Inside l region g x y → Held l region (lumaPosition (g .columns) x) (lumaPosition (g .rows) y)
+  to-luma : (x y : ℕ) → Inside l region g x y → LumaInside l region (lumaPosition (g .columns) x) (lumaPosition (g .rows) y)
   unfolding planeOf
   to-luma x y i = record {
     column = lt-own (g .columns .ratio) (g .columns .size) x (i .column);
@@ -60,7 +60,7 @@ module _ (l : Layout) (ok : AcceptedLayout l) (region : List ℕ) (iso : isolate
     position = i .position;
   }
 
-  to-own : (x y : ℕ) → Held l region (lumaPosition (g .columns) x) (lumaPosition (g .rows) y) → Inside l region g x y
+  to-own : (x y : ℕ) → LumaInside l region (lumaPosition (g .columns) x) (lumaPosition (g .rows) y) → Inside l region g x y
   unfolding planeOf
   to-own x y h = record {
     column = own-lt (g .columns .ratio) ratioX (g .columns .size) x (omega (arith, okX .size8)) (h .column);
@@ -93,32 +93,33 @@ module _ (l : Layout) (ok : AcceptedLayout l) (region : List ℕ) (iso : isolate
     unfolding rowClip
     guardedY = guarded (g .rows) okY ratioY lineY (rowSide l (ctbAt g x y)) y q (i .row) e ty ry
 
-    wayX : Way (g .columns) (columnDisabled l (ctbAt g x y)) d X (lumaPosition (g .columns) u)
-    wayX =
-        way (g .columns) okX (columnDisabled l (ctbAt g x y)) d X (lumaPosition (g .columns) u)
+    pathX : ReadPath (g .columns) (columnDisabled l (ctbAt g x y)) d X (lumaPosition (g .columns) u)
+    pathX =
+        read-path (g .columns) okX (columnDisabled l (ctbAt g x y)) d X (lumaPosition (g .columns) u)
         (lt-own (g .columns .ratio) (g .columns .size) x (i .column)) guardedX
 
-    wayY : Way (g .rows) (rowDisabled l (ctbAt g x y)) e Y (lumaPosition (g .rows) v)
-    wayY =
-        way (g .rows) okY (rowDisabled l (ctbAt g x y)) e Y (lumaPosition (g .rows) v)
+    pathY : ReadPath (g .rows) (rowDisabled l (ctbAt g x y)) e Y (lumaPosition (g .rows) v)
+    pathY =
+        read-path (g .rows) okY (rowDisabled l (ctbAt g x y)) e Y (lumaPosition (g .rows) v)
         (lt-own (g .rows .ratio) (g .rows .size) y (i .row)) guardedY
 
     -- the corner rule keeps the column within the CTB
     back : (f : Side) → d ≡ f → X / g .columns .ctb ≢ lumaPosition (g .columns) u / g .columns .ctb
-        → Way (g .columns) (columnDisabled l (ctbAt g x y)) d X (lumaPosition (g .columns) u)
-        → Held l region (lumaPosition (g .columns) (ctbEnd (g .columns) f x)) (lumaPosition (g .rows) v)
+        → ReadPath (g .columns) (columnDisabled l (ctbAt g x y)) d X (lumaPosition (g .columns) u)
+        → LumaInside l region (lumaPosition (g .columns) (ctbEnd (g .columns) f x)) (lumaPosition (g .rows) v)
     unfolding planeOf
     back f s ne (here c) = absurd (ne (c .ctb))
     back f s ne (over m o) =
-        let c = end-cell (g .columns) okX ratioX d x m (o .atEnd) (o .inner) in
-        rw (← s) (arrive l ok columnRatio rowRatio line region iso d e X Y _ _ (to-luma x y i) (here c) wayY (λ n _ _. absurd (n (c .ctb))))
+        let c = end-uncut (g .columns) okX ratioX d x m (o .atEnd) (o .inner) in
+        rw (← s)
+        (arrive l ok columnRatio rowRatio line region iso d e X Y _ _ (to-luma x y i) (here c) pathY (λ n _ _. absurd (n (c .ctb))))
 
     moved : (f : Side) → pastCorner l g x y p q f ≡ true
-        → Held l region (lumaPosition (g .columns) (ctbEnd (g .columns) f x)) (lumaPosition (g .rows) v)
+        → LumaInside l region (lumaPosition (g .columns) (ctbEnd (g .columns) f x)) (lumaPosition (g .rows) v)
     unfolding pastCorner
     moved f t =
         let past = both (pastCtb (g .columns) f x u) _ t .0 in
-        back f (past-side (g .columns) okX ratioX x u d f (guardedX .toward) past) (past-other (g .columns) okX ratioX x u f past) wayX
+        back f (past-side (g .columns) okX ratioX x u d f (guardedX .toward) past) (past-other (g .columns) okX ratioX x u f past) pathX
 
     -- where both sides are crossed and the corner rule does not apply, the corner is not disabled
     uncornered : pastCorner l g x y p q d ≡ false → X / g .columns .ctb ≢ lumaPosition (g .columns) u / g .columns .ctb
@@ -132,12 +133,12 @@ module _ (l : Layout) (ok : AcceptedLayout l) (region : List ℕ) (iso : isolate
         and-no _ _ (and-no _ _ (and-no _ _ (and-no _ _ t (cx .1)) pastY) (ap isNone (cx .0))) noneY
 
     padded : (s t : Bool) → pastCorner l g x y p q before ≡ s → pastCorner l g x y p q after ≡ t
-        → Held l region (lumaPosition (g .columns) (cond s (ctbEnd (g .columns) before x) (cond t (ctbEnd (g .columns) after x) u)))
+        → LumaInside l region (lumaPosition (g .columns) (cond s (ctbEnd (g .columns) before x) (cond t (ctbEnd (g .columns) after x) u)))
         (lumaPosition (g .rows) v)
     unfolding planeOf
     padded true t h k = moved before h
     padded false true h k = moved after k
-    padded false false h k = arrive l ok columnRatio rowRatio line region iso d e X Y _ _ (to-luma x y i) wayX wayY
+    padded false false h k = arrive l ok columnRatio rowRatio line region iso d e X Y _ _ (to-luma x y i) pathX pathY
         (uncornered (neither d h k))
       where
         neither : (f : Side) → pastCorner l g x y p q before ≡ false → pastCorner l g x y p q after ≡ false
@@ -145,9 +146,9 @@ module _ (l : Layout) (ok : AcceptedLayout l) (region : List ℕ) (iso : isolate
         neither before h k = h
         neither after h k = k
 
-    held-read : Held l region (lumaPosition (g .columns) (paddedColumn l g x y p q)) (lumaPosition (g .rows) (paddedRow l g x y p q))
+    luma-read : LumaInside l region (lumaPosition (g .columns) (paddedColumn l g x y p q)) (lumaPosition (g .rows) (paddedRow l g x y p q))
     unfolding paddedColumn paddedRow
-    held-read = padded (pastCorner l g x y p q before) (pastCorner l g x y p q after) refl refl
+    luma-read = padded (pastCorner l g x y p q before) (pastCorner l g x y p q after) refl refl
 
   -- on whichever side the neighbour lies
   inside-read : (x y p q : ℕ) → Inside l region g x y
@@ -156,10 +157,10 @@ module _ (l : Layout) (ok : AcceptedLayout l) (region : List ℕ) (iso : isolate
   inside-read x y p q i rx ry =
       to-own (paddedColumn l g x y p q) (paddedRow l g x y p q)
       (by-cases (decLe p x)
-      (λ h. by-cases (decLe q y) (λ k. held-read x y p q i rx ry before before h k)
-      (λ k. held-read x y p q i rx ry before after h (omega arith)))
-      (λ h. by-cases (decLe q y) (λ k. held-read x y p q i rx ry after before (omega arith) k)
-      (λ k. held-read x y p q i rx ry after after (omega arith) (omega arith))))
+      (λ h. by-cases (decLe q y) (λ k. luma-read x y p q i rx ry before before h k)
+      (λ k. luma-read x y p q i rx ry before after h (omega arith)))
+      (λ h. by-cases (decLe q y) (λ k. luma-read x y p q i rx ry after before (omega arith) k)
+      (λ k. luma-read x y p q i rx ry after after (omega arith) (omega arith))))
 
   -- planes that are the same inside give the same reads
   pub same-reads : (plane plane′ : List ℕ) → SameInside l region g plane plane′ → SameReads l region g plane plane′

@@ -1,5 +1,5 @@
--- The way along one axis from a position to the one that is read for its neighbour: within a cell, or over one side of the CTB. Assumes
--- nothing.
+-- The path along one axis from a position to the one that is read for its neighbour: within a stretch that nothing cuts, or over one side
+-- of the CTB. Assumes nothing.
 use mathlib.Core.Path.{_≡_, refl, sym, ap, _∙_}
 use mathlib.Core.Logic.{_≢_, by-cases}
 use mathlib.Core.Bool.{Bool, true, false}
@@ -10,20 +10,20 @@ use native.Mathlib.Omega.{arith}
 use Rattle.alf_spec.specs.Geometry.{Side, before, after, next, gap, Axis, ctbStart}
 use Rattle.alf_spec.specs.Isolation.{openStep}
 use Rattle.alf_spec.proofs.Axes.{Regular, lower, upper, ctb-of, past-end, following}
-use Rattle.alf_spec.proofs.IsolatedRegions.Cells.{Clear, Cell, cell-sym}
+use Rattle.alf_spec.proofs.IsolatedRegions.UncutStretches.{NoBoundaryBetween, Uncut, uncut-sym}
 use Rattle.alf_spec.proofs.Ratios.{Toward}
 use Rattle.alf_spec.proofs.IsolatedRegions.Steps.{open-step}
 
 -- u and v, at most 7 apart, stand in two CTBs: e is the last position of the first
-record Split (a : Axis) (u v e : ℕ) : Type 0 where
-  left : Cell a u e
-  right : Cell a (suc e) v
+record TwoCtbs (a : Axis) (u v e : ℕ) : Type 0 where
+  left : Uncut a u e
+  right : Uncut a (suc e) v
   free : ¬ List·Memᴰ (suc e) (a .virtualBoundaries)
   first : ctbStart a v ≡ suc e
 
 module _ (a : Axis) (ok : Regular a) where
-  split : (u v e : ℕ) → suc e ≡ ctbStart a u + a .ctb → u ≤ v → v ≤ u + 7 → v < a .size → Clear a u v
-      → u / a .ctb ≢ v / a .ctb → Split a u v e
+  split : (u v e : ℕ) → suc e ≡ ctbStart a u + a .ctb → u ≤ v → v ≤ u + 7 → v < a .size → NoBoundaryBetween a u v
+      → u / a .ctb ≢ v / a .ctb → TwoCtbs a u v e
   split u v e q le short inV clear ne =
       let lo = lower a u in
       let hi = upper a ok u in
@@ -58,36 +58,37 @@ pub record Guarded (a : Axis) (disabled : Side → Bool) (d : Side) (x u : ℕ) 
   pub toward : Toward d x u
   pub low : x ≤ u + 7
   pub high : u ≤ x + 7
-  pub clear : Clear a x u
+  pub clear : NoBoundaryBetween a x u
   pub enabled : x / a .ctb ≢ u / a .ctb → disabled d ≡ false
 
 -- over one side of x's CTB: from x to the CTB's outermost position m, one open step, and on to u
 pub record Over (a : Axis) (disabled : Side → Bool) (d : Side) (x u m : ℕ) : Type 0 where
   pub atEnd : outermost a d x ≡ m
-  pub inner : Cell a x m
+  pub inner : Uncut a x m
   pub low : 0 < gap d m
   pub high : gap d m < a .size
   pub step : openStep a disabled d m ≡ true
-  pub outer : Cell a (next d m) u
+  pub outer : Uncut a (next d m) u
   pub other : x / a .ctb ≢ u / a .ctb
 
-pub data Way (a : Axis) (disabled : Side → Bool) (d : Side) (x u : ℕ) : Type 0 where
-  here : Cell a x u → Way a disabled d x u
-  over : (m : ℕ) → Over a disabled d x u m → Way a disabled d x u
+-- within one stretch, or over one side of the CTB
+pub data ReadPath (a : Axis) (disabled : Side → Bool) (d : Side) (x u : ℕ) : Type 0 where
+  here : Uncut a x u → ReadPath a disabled d x u
+  over : (m : ℕ) → Over a disabled d x u m → ReadPath a disabled d x u
 
 module _ (a : Axis) (ok : Regular a) (disabled : Side → Bool) where
-  cross : (d : Side) (x u : ℕ) → x < a .size → Guarded a disabled d x u → x / a .ctb ≢ u / a .ctb → Way a disabled d x u
+  cross : (d : Side) (x u : ℕ) → x < a .size → Guarded a disabled d x u → x / a .ctb ≢ u / a .ctb → ReadPath a disabled d x u
   cross before x u inX p ne =
       let e = pred (ctbStart a u + a .ctb) in
       let s = split a ok u x e (omega (arith, ok .big)) (p .toward) (p .low) inX (λ b w. (p .clear b w .1, p .clear b w .0))
       (λ q. ne (sym q)) in
       over (suc e) (record {
         atEnd = s .first;
-        inner = cell-sym (s .right);
+        inner = uncut-sym (s .right);
         low = omega arith;
         high = s .right .inU;
         step = open-step a disabled before (suc e) (omega arith) (s .right .inU) (s .free) (λ _. p .enabled ne);
-        outer = cell-sym (s .left);
+        outer = uncut-sym (s .left);
         other = ne;
       })
   cross after x u inX p ne =
@@ -103,7 +104,7 @@ module _ (a : Axis) (ok : Regular a) (disabled : Side → Bool) where
         other = ne;
       })
 
-  pub way : (d : Side) (x u : ℕ) → x < a .size → Guarded a disabled d x u → Way a disabled d x u
-  way d x u inX p = by-cases (ℕ-discrete (x / a .ctb) (u / a .ctb))
+  pub read-path : (d : Side) (x u : ℕ) → x < a .size → Guarded a disabled d x u → ReadPath a disabled d x u
+  read-path d x u inX p = by-cases (ℕ-discrete (x / a .ctb) (u / a .ctb))
       (λ q. here (record { inU = inX; inV = p .inPicture; ctb = q; clear = p .clear }))
       (cross d x u inX p)
