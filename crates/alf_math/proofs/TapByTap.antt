@@ -25,7 +25,8 @@ pub summed-none : {tap : ℕ → ℤ} {b : ℕ} → Summed tap b 0 (pos 0)
 unfolding sumBelowℤ
 summed-none = record { is = refl; small = omega arith }
 
--- one call more: it was given the sum z of n taps, and r, which it returned, is that sum and tap n. What the caller holds are the bits of r.
+-- one call more: it was given the sum z of n taps, and r, which it returned, is that sum and tap n. What the caller holds are the bits of
+-- r.
 pub summed-more : {tap : ℕ → ℤ} {b n : ℕ} {z r : ℤ} → Summed tap b n z → natAbs (tap n) ≤ b → mag r < 2 ^ hbits w32 → r ≡ z +ℤ tap n
     → Summed tap b (suc n) (toZ w32 (ofZ w32 r))
 unfolding sumBelowℤ

@@ -32,7 +32,7 @@ pub luma-taps : (x y : ℕ) (r : LumaRows) → LumaOffsets r → Each (Around 3 
 unfolding lumaPlus lumaMinus distance
 luma-taps x y r h = (omega arith, omega arith)
 
--- Table 46: up to 2
+-- Table 46: offsets up to 2
 abbrev pub ChromaOffsets : ChromaRows → Type 0
 ChromaOffsets r = (r .y1 ≤ 2) × (r .y2 ≤ 2)
 
@@ -47,7 +47,7 @@ pub chroma-taps : (x y : ℕ) (r : ChromaRows) → ChromaOffsets r → Each (Aro
 unfolding chromaPlus chromaMinus distance
 chroma-taps x y r h = (omega arith, omega arith)
 
--- Table 47: up to 2; the limit 3 stands here, so that the rule for luma serves
+-- Table 47: offsets up to 2; the limit 3 stands here, so that the rule for luma serves
 abbrev pub CrossOffsets : CrossRows → Type 0
 CrossOffsets r = (r .y1 ≤ 3) × (r .y2 ≤ 3)
 
