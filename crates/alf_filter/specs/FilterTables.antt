@@ -31,7 +31,7 @@ pub record FilterTables : Type 0 where
   pub chroma : List ℕ
   pub places : List ℕ
 
--- the same by position, in the order in which functions are given them
+-- these tables, each by its position, in the order in which functions are given them
 abbrev pub tablesOf : Picture → Grid → List ℕ → List ℕ → List ℕ → List ℕ → List ℤ → List ℕ → List ℤ → List ℕ → List ℕ → List ℕ → List ℕ
     → FilterTables
 tablesOf picture grid virtualColumns virtualRows sliceMap sliceParams bank ctbParams fixedFilters fixedMap luma chroma places = record {

@@ -111,18 +111,6 @@ pub filter-address-spec : {M : Type 1} → statement M
 filter-address-spec =
     tie.close
     (tie.spec
-    (λ c. search needs)
-    not-marked
-    (λ c. search needs)
-    (λ c. search needs)
-    (λ c κs. search needs)
-    (λ c. search needs)
-    (λ c. search needs)
-    load-requires
-    (λ c. search needs)
-    filter-ctb-requires
-    (λ c. search needs)
-    (λ c. search needs)
-    (λ c. search needs)
-    (λ c. search needs)
+    (λ c. search needs) not-marked (λ c. search needs) (λ c. search needs) (λ c κs. search needs) (λ c. search needs) (λ c. search needs)
+    load-requires (λ c. search needs) filter-ctb-requires (λ c. search needs) (λ c. search needs) (λ c. search needs) (λ c. search needs)
     filtered)
