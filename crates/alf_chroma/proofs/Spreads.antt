@@ -14,7 +14,7 @@ use Rattle.alf_lists.specs.Regions.{between}
 use Rattle.alf_lists.specs.Filled.{Filled, same}
 use Rattle.alf_lists.proofs.Painted.{fill-out}
 use Rattle.alf_lists.proofs.Regions.{in-run, run-facts}
-use Rattle.alf_taps.specs.Spread.{clipPlace, TapNumbers}
+use Rattle.alf_taps.specs.Spread.{clipsAt, TapNumbers}
 use Rattle.alf_chroma.specs.Pieces.{Spread}
 
 -- an index before a run, or after it, is not in it
@@ -25,26 +25,26 @@ outside f n k (inr h) = never _ (λ t. let z = run-facts f n k t in omega arith)
 -- tap j: its coefficient v goes into n columns of `taps`, which gives `one`, and then its clip w, which gives `two`
 module _ (filters : List ℤ) (j : ℕ) {n : ℕ} {taps one two : List ℤ} (T : TapNumbers taps) (few : n ≤ 128) (tap : j < 6)
     (first : Filled (pos 0) taps (between (128 * j) n) (same (getD filters j (pos 0))) one)
-    (second : Filled (pos 0) one (between (clipPlace + 128 * j) n) (same (getD filters (6 + j) (pos 0))) two) where
+    (second : Filled (pos 0) one (between (clipsAt + 128 * j) n) (same (getD filters (6 + j) (pos 0))) two) where
   abbrev v : ℤ
   v = getD filters j (pos 0)
 
   abbrev w : ℤ
   w = getD filters (6 + j) (pos 0)
 
-  coefficient-at : (k : ℕ) → k < clipPlace → getD two k (pos 0) ≡ cond (between (128 * j) n k) v (getD taps k (pos 0))
+  coefficient-at : (k : ℕ) → k < clipsAt → getD two k (pos 0) ≡ cond (between (128 * j) n k) v (getD taps k (pos 0))
   coefficient-at k h =
-      fill-out second k (omega (arith, first .len, T .room)) (outside (clipPlace + 128 * j) n k (inl (omega arith)))
+      fill-out second k (omega (arith, first .len, T .room)) (outside (clipsAt + 128 * j) n k (inl (omega arith)))
       ∙ first .at k (omega (arith, T .room))
 
-  clip-at : (k : ℕ) → k < clipPlace → getD two (clipPlace + k) (pos 0) ≡ cond (between (128 * j) n k) w (getD taps (clipPlace + k) (pos 0))
+  clip-at : (k : ℕ) → k < clipsAt → getD two (clipsAt + k) (pos 0) ≡ cond (between (128 * j) n k) w (getD taps (clipsAt + k) (pos 0))
   clip-at k h =
-      let moved : between (clipPlace + 128 * j) n (clipPlace + k) ≡ between (128 * j) n k =
-      same-test (between (clipPlace + 128 * j) n (clipPlace + k)) (between (128 * j) n k)
-      (λ t. let z = run-facts (clipPlace + 128 * j) n (clipPlace + k) t in in-run (128 * j) n k (omega arith))
-      (λ t. let z = run-facts (128 * j) n k t in in-run (clipPlace + 128 * j) n (clipPlace + k) (omega arith)) in
-      second .at (clipPlace + k) (omega (arith, first .len, T .room))
-      ∙ rw (moved, fill-out first (clipPlace + k) (omega (arith, T .room)) (outside (128 * j) n (clipPlace + k) (inr (omega arith))))
+      let moved : between (clipsAt + 128 * j) n (clipsAt + k) ≡ between (128 * j) n k =
+      same-test (between (clipsAt + 128 * j) n (clipsAt + k)) (between (128 * j) n k)
+      (λ t. let z = run-facts (clipsAt + 128 * j) n (clipsAt + k) t in in-run (128 * j) n k (omega arith))
+      (λ t. let z = run-facts (128 * j) n k t in in-run (clipsAt + 128 * j) n (clipsAt + k) (omega arith)) in
+      second .at (clipsAt + k) (omega (arith, first .len, T .room))
+      ∙ rw (moved, fill-out first (clipsAt + k) (omega (arith, T .room)) (outside (128 * j) n (clipsAt + k) (inr (omega arith))))
 
   pub numbers-more : CoeffRange v → ClipRange w → TapNumbers two
   numbers-more hv hw = record {

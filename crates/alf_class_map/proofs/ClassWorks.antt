@@ -18,7 +18,7 @@ use Rattle.alf_math.proofs.CtbAddresses.{ctb-in-picture}
 use Rattle.alf_pieces.specs.declared.pieces.Piece.{Piece}
 use Rattle.alf_pieces.specs.Pieces.{BlockPiece}
 use Rattle.alf_pieces.specs.Copies.{area}
-use Rattle.alf_classify.specs.Work.{MapRoom}
+use Rattle.alf_classify.specs.PieceClasses.{MapRoom}
 use Rattle.alf_class_map.specs.Work.{ClassWork}
 use Rattle.alf_classify.proofs.PieceRows.{blocks}
 
@@ -34,7 +34,7 @@ pub own-map : {p : Picture} {g : Grid} {luma : List ℕ} {copy differences map :
     → BlockPiece (p .width) columns → BlockPiece (p .height) rows → MapRoom columns rows (p .width / 4) (columns .start / 4)
     (rows .start / 4) map
 own-map {p} work across down =
-    let r = work .rooms in
+    let r = work .rooms .picture in
     let a = blocks across in
     let d = blocks down in
     record {
@@ -62,10 +62,12 @@ module _ (l : Layout) (luma : List ℕ) (n : ℕ) (ok : fault classes (classesIn
     unfolding planeOf
     class-work = record {
       rooms = record {
-        grid = grid;
-        sizes = accepted-classes .sizes;
-        ctbSize = accepted-classes .ctbSize;
-        depth = accepted-classes .bitDepth;
+        picture = record {
+          grid = grid;
+          sizes = accepted-classes .sizes;
+          ctbSize = accepted-classes .ctbSize;
+          depth = accepted-classes .bitDepth;
+        };
         copyRoom = copyRoom;
         differenceRoom = differenceRoom;
       };

@@ -60,20 +60,20 @@ pub four-pairs : (d : List ℕ) (pitch from n : ℕ) {xs ys zs : List ℕ} → n
     → Paint ys (between 0 n) (pairAdded ys d pitch (from + 6 * pitch)) zs → Paint xs (between 0 n) (columnFrom d pitch 4 from) zs
 four-pairs d pitch from n room P Q =
     paint-again P Q (λ x h t.
-    let place : from + 6 * pitch + x ≡ from + x + 6 * pitch = omega arith in
-    ap₂ (λ (a b : ℕ). a + b) (paint-in P x h t) (ap (λ (k : ℕ). pairAt d pitch k) place) ∙ sym (fourth-pair d pitch (from + x)))
+    let index : from + 6 * pitch + x ≡ from + x + 6 * pitch = omega arith in
+    ap₂ (λ (a b : ℕ). a + b) (paint-in P x h t) (ap (λ (k : ℕ). pairAt d pitch k) index) ∙ sym (fourth-pair d pitch (from + x)))
 
 -- ---- blocks
 
--- what the sums of n columns from place `from` on say of the block whose window begins at column m of them
+-- what the sums of n columns from index `from` on say of the block whose window begins at column m of them
 module _ (d : List ℕ) (pitch pairs n m : ℕ) (inside : m + 6 < n) where
   block-columns : (from : ℕ) {zs sums : List ℕ} → n ≤ length zs → Paint zs (between 0 n) (columnFrom d pitch pairs from) sums
       → fourColumns sums m ≡ blockSum d pitch pairs (from + m)
   unfolding fourColumns blockSum
   block-columns from room P =
       sum-same 4 _ _ (λ i h.
-      let place : from + (m + 2 * i) ≡ from + m + 2 * i = omega arith in
-      paint-in P (m + 2 * i) (omega arith) (in-run 0 n (m + 2 * i) (omega arith)) ∙ ap (λ (k : ℕ). columnSum d pitch pairs k) place)
+      let index : from + (m + 2 * i) ≡ from + m + 2 * i = omega arith in
+      paint-in P (m + 2 * i) (omega arith) (in-run 0 n (m + 2 * i) (omega arith)) ∙ ap (λ (k : ℕ). columnSum d pitch pairs k) index)
 
   pub sums-of-block : (from : ℕ) {zs v h d0 d1 : List ℕ} → n ≤ length zs
       → Paint zs (between 0 n) (columnFrom d pitch pairs from) v → Paint zs (between 0 n) (columnFrom d pitch pairs (area + from)) h

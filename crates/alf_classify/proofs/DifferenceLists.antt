@@ -14,7 +14,7 @@ use Rattle.alf_lists.proofs.Painted.{Paint, paint-in, paint-out}
 use Rattle.alf_lists.proofs.Regions.{in-run, run-facts}
 use Rattle.alf_classify.specs.Windows.{differenceAt, differenceFrom, Differences, SmallRun, SmallRuns}
 
--- a run over the first n samples of the copy, but for m of them at each end, that writes from place `at` on
+-- a run over the first n samples of the copy, but for m of them at each end, that writes from index `at` on
 abbrev Run : List ℕ → ℕ → ℕ → ℕ → ℕ → List ℕ → List ℕ → Type 0
 Run copy n m step at xs ys = Paint xs (between (at + m) (n - (m + m))) (differenceFrom copy step at) ys
 
@@ -25,7 +25,7 @@ module _ (copy : List ℕ) (n m step at : ℕ) {xs ys : List ℕ} (run : Run cop
       paint-in run (at + k) (omega (arith, room)) (in-run (at + m) (n - (m + m)) (at + k) (omega arith))
       ∙ ap (λ (j : ℕ). differenceAt copy step j) here
 
-  -- what stands before place `at`
+  -- what stands before index `at`
   pub kept : (k : ℕ) → k < at → at ≤ length xs → getD ys k 0 ≡ getD xs k 0
   kept k h room =
       paint-out run k (omega arith) (never _ (λ t. let f = run-facts (at + m) (n - (m + m)) k t in omega arith))
@@ -66,7 +66,7 @@ module _ (copy : List ℕ) (pitch n : ℕ) (samples : (k : ℕ) → k < n → ge
   difference-small step k h inside =
       omega (arith, samples k (omega arith), samples (k - step) (omega arith), samples (k + step) (omega arith))
 
-  -- in one direction, whose differences stand from place `at` of the list on
+  -- in one direction, whose differences stand from index `at` of the list on
   small-run : (d : List ℕ) (step at from m reach : ℕ)
       → ((k : ℕ) → pitch + 1 ≤ k → k + (pitch + 1) < n → getD d (at + k) 0 ≡ differenceAt copy step k)
       → step ≤ pitch + 1 → pitch + 1 ≤ from → from + m + reach + (pitch + 1) ≤ n → SmallRun d (at + from) (at + from + m + reach)

@@ -29,7 +29,7 @@ use Rattle.alf_pieces.proofs.CtbPieces.{column-facts, row-facts}
 use Rattle.alf_pieces.proofs.CopySamples.{window-in}
 use Rattle.alf_pieces.proofs.CopyHolds.{copy-holds}
 use Rattle.alf_classify.specs.Windows.{copyWindow}
-use Rattle.alf_classify.specs.Work.{rowWindow, copyClassAt}
+use Rattle.alf_classify.specs.PieceClasses.{rowWindow, copyClassAt}
 
 -- block b of an axis, in a piece: its first sample, from the axis's first and from the piece's
 block-in : {n : ℕ} {p : Piece} → BlockPiece n p → (b : ℕ) → p .start / 4 ≤ b → b < p .end / 4

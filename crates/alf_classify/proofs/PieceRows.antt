@@ -17,7 +17,7 @@ use Rattle.alf_lists.specs.Regions.{between}
 use Rattle.alf_lists.proofs.Regions.{run-facts, row-of, row-room}
 use Rattle.alf_pieces.proofs.CopyRooms.{copy-fits}
 use Rattle.alf_classify.specs.Windows.{copyWindow, Differences, blockSums, SmallRuns, rowClass}
-use Rattle.alf_classify.specs.Work.{rowWindow, copyClassAt}
+use Rattle.alf_classify.specs.PieceClasses.{rowWindow, copyClassAt}
 use Rattle.alf_classify.proofs.DifferenceLists.{small-runs}
 use Rattle.alf_classify.proofs.WindowSums.{RowBounds, row-bounds, window-sums}
 
@@ -106,9 +106,9 @@ module _ (p : Picture) (ctb : ℕ) (rows : Piece) (copy d : List ℕ) {pitch cou
         ≡ classOfSums (p .«bit_depth») (window .factor) (blockSums d pitch (window .count / 2) (from + 4 * m))
     unfolding classOf
     block-number m h =
-        let place : (4 * row + window .first) * pitch + (4 * m + 1) ≡ from + 4 * m = omega (arith, f) in
+        let index : (4 * row + window .first) * pitch + (4 * m + 1) ≡ from + 4 * m = omega (arith, f) in
         let sums : windowSums window (copyWindow copy pitch (4 * m) (4 * row)) ≡ blockSums d pitch (window .count / 2) (from + 4 * m) =
-        rw (← place, w) (window-sums copy pitch (4 * m) (4 * row) d _ (P .differences) (omega (arith, P .pitchIs)) rows-inside _ ctb _) in
+        rw (← index, w) (window-sums copy pitch (4 * m) (4 * row) d _ (P .differences) (omega (arith, P .pitchIs)) rows-inside _ ctb _) in
         rw sums
 
     -- whatever the piece's columns are, if its copy has that pitch
@@ -117,7 +117,7 @@ module _ (p : Picture) (ctb : ℕ) (rows : Piece) (copy d : List ℕ) {pitch cou
     unfolding copyClassAt
     row-number columns e k t =
         let r = run-facts at count k t in
-        let place = row-of mapColumns (top + row) k (omega (arith, a)) (omega (arith, a, fits)) in
+        let index = row-of mapColumns (top + row) k (omega (arith, a)) (omega (arith, a, fits)) in
         let s : 4 * (k % mapColumns - left) ≡ 4 * (k - at) = omega (arith, a) in
         let t : 4 * (k / mapColumns - top) ≡ 4 * row = omega arith in
         rw (s, t, e, ← w) (ap classNumber (sym (block-number (k - at) (omega arith))))

@@ -46,24 +46,24 @@ by-cells f line ctb y = rows-either (λ r. windowSum r f ≡ cells f (r .first) 
 
 module _ (copy : List ℕ) (pitch s t : ℕ) where
   -- where column i and row j of the window stand in the copy
-  abbrev place : ℕ → ℕ → ℕ
-  place i j = (t + j) * pitch + (s + i)
+  abbrev index : ℕ → ℕ → ℕ
+  index i j = (t + j) * pitch + (s + i)
 
   abbrev window : List ℕ
   window = copyWindow copy pitch s t
 
-  window-at : (i j : ℕ) → i < 10 → j < 10 → getD window (10 * j + i) 0 ≡ getD copy (place i j) 0
+  window-at : (i j : ℕ) → i < 10 → j < 10 → getD window (10 * j + i) 0 ≡ getD copy (index i j) 0
   unfolding copyWindow
   window-at i j column row =
       let down : (10 * j + i) / 10 ≡ j = omega arith in
       let across : (10 * j + i) % 10 ≡ i = omega arith in
-      tabulate-at 100 _ (10 * j + i) (omega arith) ∙ ap₂ (λ (b a : ℕ). getD copy (place a b) 0) down across
+      tabulate-at 100 _ (10 * j + i) (omega arith) ∙ ap₂ (λ (b a : ℕ). getD copy (index a b) 0) down across
 
   -- a sample between two others
   difference-at : (step i j a b c d : ℕ) → (i < 10) × (j < 10) × (a < 10) × (b < 10) × (c < 10) × (d < 10)
-      → place a b ≡ place i j - step → place c d ≡ place i j + step
+      → index a b ≡ index i j - step → index c d ≡ index i j + step
       → distance (2 * getD window (10 * j + i) 0) (getD window (10 * b + a) 0 + getD window (10 * d + c) 0)
-      ≡ differenceAt copy step (place i j)
+      ≡ differenceAt copy step (index i j)
   unfolding differenceAt
   difference-at step i j a b c d h before after =
       rw (window-at i j (h .0) (h .1), window-at a b (h .2) (h .3), window-at c d (h .4) (h .5), before, after)
@@ -74,43 +74,43 @@ module _ (copy : List ℕ) (pitch s t : ℕ) where
 
   -- the four directions, at the samples that have neighbours in the window
   module _ (i j : ℕ) (h : (1 ≤ i) × (i ≤ 8) × (1 ≤ j) × (j ≤ 8)) (wide : 1 ≤ pitch) where
-    filt-v : filtV window i j ≡ differenceAt copy pitch (place i j)
+    filt-v : filtV window i j ≡ differenceAt copy pitch (index i j)
     unfolding filtV
     filt-v = let e = row-above j (h .2) in difference-at pitch i j i (j - 1) i (j + 1) (omega arith) (omega arith) (omega arith)
 
-    filt-h : filtH window i j ≡ differenceAt copy 1 (place i j)
+    filt-h : filtH window i j ≡ differenceAt copy 1 (index i j)
     unfolding filtH
     filt-h = difference-at 1 i j (i - 1) j (i + 1) j (omega arith) (omega arith) (omega arith)
 
-    filt-d0 : filtD0 window i j ≡ differenceAt copy (pitch + 1) (place i j)
+    filt-d0 : filtD0 window i j ≡ differenceAt copy (pitch + 1) (index i j)
     unfolding filtD0
     filt-d0 = let e = row-above j (h .2) in difference-at (pitch + 1) i j (i - 1) (j - 1) (i + 1) (j + 1) (omega arith)
         (omega arith) (omega arith)
 
-    filt-d1 : filtD1 window i j ≡ differenceAt copy (pitch - 1) (place i j)
+    filt-d1 : filtD1 window i j ≡ differenceAt copy (pitch - 1) (index i j)
     unfolding filtD1
     filt-d1 = let e = row-above j (h .2) in difference-at (pitch - 1) i j (i + 1) (j - 1) (i - 1) (j + 1) (omega arith)
         (omega arith) (omega arith)
 
   -- ---- the sums
 
-  -- in one direction, whose differences stand from place `at` of the list on
+  -- in one direction, whose differences stand from index `at` of the list on
   sum-of-cells : (d : List ℕ) (f : ℕ → ℕ → ℕ) (at first pairs : ℕ) → (1 ≤ first) × (first + 2 * pairs ≤ 9)
-      → ((i j : ℕ) → (1 ≤ i) × (i ≤ 8) × (1 ≤ j) × (j ≤ 8) → f i j ≡ getD d (at + place i j) 0)
-      → cells f first pairs ≡ blockSum d pitch pairs (at + place 1 first)
+      → ((i j : ℕ) → (1 ≤ i) × (i ≤ 8) × (1 ≤ j) × (j ≤ 8) → f i j ≡ getD d (at + index i j) 0)
+      → cells f first pairs ≡ blockSum d pitch pairs (at + index 1 first)
   unfolding cells blockSum columnSum
   sum-of-cells d f at first pairs h e =
       sum-same 4 _ _ (λ i l.
       sum-same pairs _ _ (λ u m.
-      let even : at + place (1 + 2 * i) (first + 2 * u) ≡ at + place 1 first + 2 * i + u * (2 * pitch) = omega arith in
-      let odd : at + place (2 + 2 * i) (first + 2 * u + 1) ≡ at + place 1 first + 2 * i + u * (2 * pitch) + (pitch + 1) = omega arith in
+      let even : at + index (1 + 2 * i) (first + 2 * u) ≡ at + index 1 first + 2 * i + u * (2 * pitch) = omega arith in
+      let odd : at + index (2 + 2 * i) (first + 2 * u + 1) ≡ at + index 1 first + 2 * i + u * (2 * pitch) + (pitch + 1) = omega arith in
       ap₂ (λ (a b : ℕ). a + b)
       (e (1 + 2 * i) (first + 2 * u) (omega arith) ∙ ap (λ (k : ℕ). getD d k 0) even)
       (e (2 + 2 * i) (first + 2 * u + 1) (omega arith) ∙ ap (λ (k : ℕ). getD d k 0) odd)))
 
   -- in all four, where the window lies in the copy
   module _ (d : List ℕ) (n : ℕ) (D : Differences copy pitch n d) (column : s + 10 ≤ pitch) (row : (t + 10) * pitch ≤ n) where
-    inside : (i j : ℕ) → (1 ≤ i) × (i ≤ 8) × (1 ≤ j) × (j ≤ 8) → (pitch + 1 ≤ place i j) × (place i j + (pitch + 1) < n)
+    inside : (i j : ℕ) → (1 ≤ i) × (i ≤ 8) × (1 ≤ j) × (j ≤ 8) → (pitch + 1 ≤ index i j) × (index i j + (pitch + 1) < n)
     inside i j h =
         let low : (t + 1) * pitch ≤ (t + j) * pitch = mul-le-mul-right pitch (omega arith) in
         let high : (t + j) * pitch ≤ (t + 8) * pitch = mul-le-mul-right pitch (omega arith) in
@@ -121,13 +121,13 @@ module _ (copy : List ℕ) (pitch s t : ℕ) where
       rows = windowRows line ctb y
 
       one-sum : (f : ℕ → ℕ → ℕ) (at : ℕ)
-          → ((i j : ℕ) → (1 ≤ i) × (i ≤ 8) × (1 ≤ j) × (j ≤ 8) → f i j ≡ getD d (at + place i j) 0)
-          → windowSum rows f ≡ blockSum d pitch (rows .count / 2) (at + place 1 (rows .first))
+          → ((i j : ℕ) → (1 ≤ i) × (i ≤ 8) × (1 ≤ j) × (j ≤ 8) → f i j ≡ getD d (at + index i j) 0)
+          → windowSum rows f ≡ blockSum d pitch (rows .count / 2) (at + index 1 (rows .first))
       one-sum f at e =
           let b = row-bounds line ctb y in
           by-cells f line ctb y ∙ sum-of-cells d f at (rows .first) (rows .count / 2) (b .0, b .1) e
 
-      pub window-sums : windowSums rows window ≡ blockSums d pitch (rows .count / 2) (place 1 (rows .first))
+      pub window-sums : windowSums rows window ≡ blockSums d pitch (rows .count / 2) (index 1 (rows .first))
       unfolding windowSums blockSums
       window-sums =
           let wide : 1 ≤ pitch = omega arith in

@@ -1,3 +1,3 @@
 -- What the contracts of this crate say beside the definitions of `alf_spec`.
 pub mod Windows
-pub mod Work
+pub mod PieceClasses

@@ -23,7 +23,7 @@ copyWindow copy pitch s t = tabulate 100 (λ k. getD copy ((t + k / 10) * pitch 
 unfoldable pub differenceAt : List ℕ → ℕ → ℕ → ℕ
 differenceAt copy step k = distance (2 * getD copy k 0) (getD copy (k - step) 0 + getD copy (k + step) 0)
 
--- at place k of a list in which that of sample 0 would stand at place `at`
+-- at index k of a list in which that of sample 0 would stand at index `at`
 abbrev pub differenceFrom : List ℕ → ℕ → ℕ → ℕ → ℕ
 differenceFrom copy step at k = differenceAt copy step (k - at)
 
@@ -50,18 +50,18 @@ blockSum d pitch pairs k = sumBelow 4 (λ i. columnSum d pitch pairs (k + 2 * i)
 
 -- ---- as code has them
 
--- the entries from place `from` to `to`, the last one not counted, are as small as differences of samples below 4096
+-- the entries from index `from` to `to`, the last one not counted, are as small as differences of samples below 4096
 abbrev pub SmallRun : List ℕ → ℕ → ℕ → Type 0
 SmallRun d from to = (k : ℕ) → from ≤ k → k < to → getD d k 0 ≤ 8190
 
--- in each direction, n + reach entries from place `from` on
+-- in each direction, n + reach entries from index `from` on
 abbrev pub SmallRuns : List ℕ → ℕ → ℕ → ℕ → Type 0
 SmallRuns d from n reach =
     SmallRun d from (from + n + reach) × SmallRun d (area + from) (area + from + n + reach)
     × SmallRun d (2 * area + from) (2 * area + from + n + reach)
     × SmallRun d (3 * area + from) (3 * area + from + n + reach)
 
--- the sum of the x-th column from place `from` on
+-- the sum of the x-th column from index `from` on
 abbrev pub columnFrom : List ℕ → ℕ → ℕ → ℕ → ℕ → ℕ
 columnFrom d pitch pairs from x = columnSum d pitch pairs (from + x)
 
@@ -69,7 +69,7 @@ columnFrom d pitch pairs from x = columnSum d pitch pairs (from + x)
 abbrev pub pairAdded : List ℕ → List ℕ → ℕ → ℕ → ℕ → ℕ
 pairAdded sums d pitch from x = getD sums x 0 + pairAt d pitch (from + x)
 
--- over the columns of a window, whose first stands at place `at` of a list of sums
+-- over the columns of a window, whose first stands at index `at` of a list of sums
 unfoldable pub fourColumns : List ℕ → ℕ → ℕ
 fourColumns sums at = sumBelow 4 (λ i. getD sums (at + 2 * i) 0)
 
@@ -86,10 +86,10 @@ blockSums d pitch pairs k = record {
   d1 = blockSum d pitch pairs (3 * area + k);
 }
 
--- the number at place k of the map, where the first of the columns belongs to the block at place `at`
+-- the number at index k of the map, where the first of the columns belongs to the block at index `at`
 abbrev pub columnClass : List ℕ → List ℕ → List ℕ → List ℕ → ℕ → ℕ → ℕ → ℕ → ℕ
 columnClass v h d0 d1 factor depth at k = classNumber (classOfSums depth factor (columnSums v h d0 d1 (4 * (k - at))))
 
--- the same, where the differences of that block's window begin at place `from`
+-- the same, where the differences of that block's window begin at index `from`
 abbrev pub rowClass : List ℕ → ℕ → WindowRows → ℕ → ℕ → ℕ → ℕ → ℕ
 rowClass d pitch r depth from at k = classNumber (classOfSums depth (r .factor) (blockSums d pitch (r .count / 2) (from + 4 * (k - at))))

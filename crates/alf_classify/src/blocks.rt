@@ -9,7 +9,7 @@ ghost use Rattle.alf_lists.specs.Regions.{between, inRect};
 ghost use Rattle.alf_pieces.specs.Pieces.{BlockPiece};
 ghost use Rattle.alf_pieces.specs.Copies.{area, extent, copyLength};
 ghost use Rattle.alf_classify.specs.Windows.{SmallRuns, columnSums, columnClass, rowClass};
-ghost use Rattle.alf_classify.specs.Work.{Rooms, MapRoom, rowWindow, copyClassAt};
+ghost use Rattle.alf_classify.specs.PieceClasses.{ClassRooms, MapRoom, rowWindow, copyClassAt};
 use crate::differences::AREA;
 use crate::differences::all_differences;
 use crate::sums::block_sum;
@@ -28,7 +28,7 @@ use alf_spec::WindowRows;
 // seventh.
 const COLUMNS: usize = 131;
 
-// The class number of a block, from the sums of columns; those of its window begin at place `at`.
+// The class number of a block, from the sums of columns; those of its window begin at index `at`.
 fn block_class(
     v: &[u16],
     h: &[u16],
@@ -78,7 +78,7 @@ fn class_run(
     }
 }
 
-// The class numbers of a row of blocks of a piece; the differences that count for it begin at place `from`.
+// The class numbers of a row of blocks of a piece; the differences that count for it begin at index `from`.
 fn class_row(
     differences: &[u16],
     from: usize,
@@ -119,15 +119,15 @@ fn row_window(height: u32, ctb: u32, y: u32) -> WindowRows
 }
 
 // Where the differences that count begin, for the given row of blocks of a piece.
-fn window_place(row: u32, first: u32, pitch: usize) -> usize
+fn window_index(row: u32, first: u32, pitch: usize) -> usize
     requires { ⌜ (row ≤ 32) × (first ≤ 3) × (pitch ≤ 134) ⌝ }
     ensures { λ r. ⌜ r ≡ (4 * row + first) * pitch + 1 ⌝ }
 {
     (4 * row + first) as usize * pitch + 1
 }
 
-// The place in the map of the first block in the given row of blocks of a piece.
-fn map_place(map_columns: usize, left: usize, top: usize, row: u32) -> usize
+// The index in the map of the first block in the given row of blocks of a piece.
+fn map_index(map_columns: usize, left: usize, top: usize, row: u32) -> usize
     requires { ⌜ («map_columns» ≤ 1024) × (left ≤ 1024) × (top + row ≤ 1024) ⌝ }
     ensures { λ r. ⌜ r ≡ (top + row) * «map_columns» + left ⌝ }
 {
@@ -148,7 +148,7 @@ pub fn piece_classes(
     left: usize,
     top: usize,
 )
-    requires { ⌜ (Rooms picture grid (length (now copy)) (length (now differences)))
+    requires { ⌜ (ClassRooms picture grid (length (now copy)) (length (now differences)))
         × (BlockPiece (picture .width) columns) × (BlockPiece (picture .height) rows)
         × ((k : ℕ) → k < copyLength columns rows → getD (now copy) k 0 < 4096)
         × (MapRoom columns rows «map_columns» left top (length (now map))) ⌝ }
@@ -166,8 +166,8 @@ pub fn piece_classes(
     let mut row = 0;
     while row < end {
         let window = row_window(picture.height, grid.ctb, rows.start + 4 * row);
-        let from = window_place(row, window.first, pitch);
-        let at = map_place(map_columns, left, top, row);
+        let from = window_index(row, window.first, pitch);
+        let at = map_index(map_columns, left, top, row);
         class_row(differences, from, pitch, count, window, depth, map, at);
         row += 1;
     }

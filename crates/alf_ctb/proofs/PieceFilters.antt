@@ -23,7 +23,7 @@ use Rattle.alf_lists.specs.Regions.{inRect}
 use Rattle.alf_pieces.specs.Pieces.{scaled, PieceOf, PieceIn, BlockPiece, CtbOf}
 use Rattle.alf_pieces.proofs.ScaledPieces.{scaled-piece}
 use Rattle.alf_params.specs.Filters.{LumaFilters, ChromaFilter}
-use Rattle.alf_luma.specs.Samples.{LumaWork}
+use Rattle.alf_luma.specs.Samples.{LumaPieceInput}
 use Rattle.alf_chroma.specs.Pieces.{ChromaWork, unlinedPlane}
 use Rattle.alf_cross.specs.Pieces.{CrossFilter, CrossWork}
 use Rattle.alf_ctb.specs.declared.Filter.{Filter}
@@ -35,12 +35,12 @@ use Rattle.alf_ctb.specs.Work.{Given, Rooms, Numbers, PieceFiltered}
 module _ {f : Filter} {p : Picture} {g : Grid} {luma chroma places : List ℕ} (filters : List ℤ) {taps : List ℤ}
     {copy differences output : ℕ}
     (isGiven : Given f p g luma chroma places) (isNumbers : Numbers f filters) (isRooms : Rooms f p copy differences taps output) where
-  pub luma-work : f ≡ Luma → LumaWork p g luma filters places copy differences taps output
+  pub luma-work : f ≡ Luma → LumaPieceInput p g luma filters places copy differences taps output
   luma-work e =
       let given = subst (λ f. Given f p g luma chroma places) e isGiven in
       let rooms = subst (λ f. Rooms f p copy differences taps output) e isRooms in
       record {
-        work = record {
+        blocks = record {
           picture = record { grid = given .grid; sizes = given .sizes; ctbSize = given .ctbSize; depth = given .depth };
           numbers = subst (λ f. Numbers f filters) e isNumbers;
           order = given .order;

@@ -23,7 +23,7 @@ use Rattle.alf_pieces.specs.Pieces.{PieceOf, CtbOf}
 use Rattle.alf_pieces.specs.Copies.{area}
 use Rattle.alf_taps.specs.Spread.{TapNumbers}
 use Rattle.alf_params.specs.Filters.{FilterNumbers}
-use Rattle.alf_luma.specs.Filters.{Places}
+use Rattle.alf_luma.specs.SpreadFilters.{TapOrders}
 use Rattle.alf_ctb.specs.declared.Filter.{Filter}
 use Rattle.alf_ctb.specs.declared.Filter.the-variants.{Luma, Chroma, CrossComponent}
 use Rattle.alf_ctb.specs.Filters.{operationOf, columnRatio, rowRatio, walkPlane, sampleOf, OwnFilter}
@@ -38,7 +38,7 @@ pub record Given (f : Filter) (p : Picture) (g : Grid) (lumaSamples chromaSample
   pub chromaLength : given (operationOf f) .chroma ≡ true → length chromaSamples ≡ (p .width / subWidth p) * (p .height / subHeight p)
   pub luma : given (operationOf f) .luma ≡ true → (k : ℕ) → getD lumaSamples k 0 < 4096
   pub chroma : given (operationOf f) .chroma ≡ true → (k : ℕ) → getD chromaSamples k 0 < 4096
-  pub order : Places places
+  pub order : TapOrders places
 
 -- what it works in: room for the copy of a piece and for its differences, the spread numbers of a filter, and an output of the plane's size
 pub record Rooms (f : Filter) (p : Picture) (copy differences : ℕ) (taps : List ℤ) (output : ℕ) : Type 0 where

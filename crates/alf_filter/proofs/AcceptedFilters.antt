@@ -21,7 +21,7 @@ use Rattle.alf_spec.proofs.Accepted.{AcceptedLayout, accepted, passed, lists-va
 use Rattle.alf_spec.proofs.Accepted.{chroma-samples, output-length}
 use Rattle.alf_math.specs.Grids.{GridOf}
 use Rattle.alf_math.proofs.Grids.{sample-bound, grid-total}
-use Rattle.alf_luma.specs.Filters.{Places}
+use Rattle.alf_luma.specs.SpreadFilters.{TapOrders}
 use Rattle.alf_params.specs.Tables.{TablesGiven}
 use Rattle.alf_params.proofs.AcceptedTables.{accepted-tables, accepted-fixed}
 use Rattle.alf_params.proofs.TableNumbers.{own-tables, index-on}
@@ -94,7 +94,7 @@ switched (CrossComponent component) i c at e = index-on (own-tables i c at) comp
 
 -- those of an accepted input have what a filter needs
 pub tables-accepted : (f : Filter) (i : Input) → fault (operationOf f) i ≡ 0 → {g : Grid} {places : List ℕ}
-    → GridOf (i .layout .picture) g → Places places → TablesAccepted f (inputTables i g places)
+    → GridOf (i .layout .picture) g → TapOrders places → TablesAccepted f (inputTables i g places)
 unfolding planeOf
 tables-accepted f i ok grid order =
     let op = operationOf f in

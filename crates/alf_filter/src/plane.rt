@@ -8,8 +8,8 @@ ghost use Rattle.alf_ctb.specs.Filters.{operationOf, planeFiltered};
 use crate::ctbs::filter_marked;
 use crate::listed_ctbs::mark_listed;
 use alf_ctb::Filter;
-use alf_luma::PLACES;
-use alf_luma::tap_places;
+use alf_luma::ORDERS;
+use alf_luma::tap_orders;
 use alf_math::grid::grid;
 use alf_pieces::copies::copy_run;
 use alf_sides::CTBS;
@@ -78,8 +78,8 @@ pub fn filter_plane(
     );
     let mut marks: [u8; CTBS] = [0; CTBS];
     mark_listed(filter, ctb_params, ctb_list, &mut marks);
-    let mut places: [u8; PLACES] = [0; PLACES];
-    tap_places(&mut places);
+    let mut places: [u8; ORDERS] = [0; ORDERS];
+    tap_orders(&mut places);
     copy_input(filter, luma, chroma, output);
     filter_marked(
         filter,

@@ -1,4 +1,4 @@
--- How large a filter's numbers and the places of the tap order are. Assumes nothing.
+-- How large a filter's numbers and the entries of the tap orders are. Assumes nothing.
 use mathlib.Core.Path.{_≡_}
 use mathlib.Core.List.{List}
 use mathlib.Core.Logic.{_⊎_, ⊎-elim}
@@ -10,7 +10,7 @@ use borrow.Author.Tests.{lt-ltb, le-ltb}
 use Rattle.alf_spec.proofs.TapOrder.{each-below}
 use Rattle.alf_lists.proofs.Regions.{order}
 use Rattle.alf_params.specs.Filters.{FilterNumbers}
-use Rattle.alf_luma.specs.Filters.{tapPlace, Places}
+use Rattle.alf_luma.specs.SpreadFilters.{tapIndex, TapOrders}
 
 -- coefficients and clips alike fit 16 bits
 pub numbers-small : {filters : List ℤ} → FilterNumbers filters → (k : ℕ) → natAbs (getD filters k (pos 0)) ≤ 4096
@@ -29,14 +29,14 @@ numbers-small {filters} h k =
         let e : 24 * (k / 24) + (12 + (k % 24 - 12)) ≡ k = omega arith in
         rw e at (h .clips (k / 24) (k % 24 - 12) (omega arith) (omega arith) .small)
 
-pub place-small : (transpose j : ℕ) → transpose < 4 → j < 24 → tapPlace transpose j < 24
-unfolding tapPlace
-place-small t j ht hj = ⊎-elim
+pub index-small : (transpose j : ℕ) → transpose < 4 → j < 24 → tapIndex transpose j < 24
+unfolding tapIndex
+index-small t j ht hj = ⊎-elim
     (λ l. rw (lt-ltb j 12 l) (omega (arith, each-below t ht j l)))
     (λ l. rw (le-ltb j 12 l) (omega (arith, each-below t ht (j - 12) (omega arith))))
     (order j 12)
 
 -- the order of one transpose in the table
-pub places-small : {places : List ℕ} → Places places → (transpose : ℕ) → transpose < 4 → (j : ℕ) → j < 24
-    → getD places (24 * transpose + j) 0 < 24
-places-small p t ht j hj = rw (p .entries t j ht hj) (place-small t j ht hj)
+pub orders-small : {orders : List ℕ} → TapOrders orders → (transpose : ℕ) → transpose < 4 → (j : ℕ) → j < 24
+    → getD orders (24 * transpose + j) 0 < 24
+orders-small p t ht j hj = rw (p .entries t j ht hj) (index-small t j ht hj)

@@ -38,12 +38,12 @@ use Rattle.alf_pieces.proofs.CopySamples.{luma-in}
 use Rattle.alf_pieces.proofs.PieceWalk.{walk-luma}
 use Rattle.alf_pieces.proofs.CopyHolds.{copy-holds}
 use Rattle.alf_classify.specs.Windows.{copyWindow}
-use Rattle.alf_classify.specs.Work.{rowWindow, copyClassAt}
+use Rattle.alf_classify.specs.PieceClasses.{rowWindow, copyClassAt}
 use Rattle.alf_classify.proofs.PieceClasses.{block-class}
 use Rattle.alf_taps.proofs.SpreadTaps.{taps-same}
 use Rattle.alf_luma.specs.Kernel.{current, plusSamples, minusSamples}
 use Rattle.alf_params.specs.Filters.{LumaFilters}
-use Rattle.alf_luma.specs.Samples.{rowsAt, startsOf, pieceClass, MapOf, copySample, copySampleAt}
+use Rattle.alf_luma.specs.Samples.{lumaRowsAtRow, startsOf, pieceClass, MapOf, lumaCopySample, lumaCopySampleAt}
 use Rattle.alf_luma.proofs.SpreadFilters.{class-of-range, ownCoeff, ownClip}
 
 -- the classes of the piece, in a map of its own
@@ -94,11 +94,11 @@ module _ {i : Input} {p : Picture} {c : Ctb} {sides : Sides} (ctb : CtbOf (i .la
     unfolding planeOf
     neighbour dx j u v hx hj eu ev low high =
         let wide : l .picture .width / 1 ≡ p .width = rw (ctb .picture) (div-one (p .width)) in
-        let place : j * pitch columns + (s + dx) ≡ j * pitch columns + s + dx = omega arith in
+        let index : j * pitch columns + (s + dx) ≡ j * pitch columns + s + dx = omega arith in
         copy-holds ctb 1 1 4 whole whole walk-luma across down (i .luma) copy copy0 wide copies room x y u v (s + dx) j
         (luma-in (lumaPlane l .columns) columns x u refl left right (omega arith) (omega arith))
         (luma-in (lumaPlane l .rows) rows y v refl top bottom low high) (omega arith) ev (omega arith) (omega arith)
-        ∙ ap (λ (k : ℕ). getD copy k 0) place
+        ∙ ap (λ (k : ℕ). getD copy k 0) index
 
     below : (dx dy u : ℕ) → dx ≤ 6 → dy ≤ 3 → u ≡ x + dx - 3
         → lumaRead i x y (u, y + dy) ≡ getD copy ((t + 3 + dy) * pitch columns + s + dx) 0
@@ -168,7 +168,7 @@ module _ {i : Input} {p : Picture} {c : Ctb} {sides : Sides} (ctb : CtbOf (i .la
           (λ j h. sym (own .coefficients (class .filter) _ (range .0) (each-below (class .transpose) (range .1) j h)))
           (λ j h. sym (own .clips (class .filter) _ (range .0) (each-below (class .transpose) (range .1) j h))))
 
-    rows-are : lumaRowsAt i x y ≡ rowsAt (p .height) (g .ctb) y
+    rows-are : lumaRowsAt i x y ≡ lumaRowsAtRow (p .height) (g .ctb) y
     unfolding planeOf lineRule bottomDistance
     rows-are = rw (grid .ctb, ← (ctb .picture)) (simp (div-one, mul-one))
 
@@ -182,16 +182,16 @@ module _ {i : Input} {p : Picture} {c : Ctb} {sides : Sides} (ctb : CtbOf (i .la
         (omega (arith, inColumns .start4)) (omega arith) (omega (arith, inRows .start4)) (omega arith)
         ∙ (λ k. classOf (p .«bit_depth») (rowWindow (p .height) (g .ctb) (first k)) (copyWindow copy (pitch columns) (column k) (row k)))
 
-    sample-same : copySample p (g .ctb) copy columns rows filters x y ≡ lumaSample i x y
-    unfolding copySample lumaSample
+    sample-same : lumaCopySample p (g .ctb) copy columns rows filters x y ≡ lumaSample i x y
+    unfolding lumaCopySample lumaSample
     sample-same =
         sym (ap₂ (lumaWith i x y) class-is rows-are
-        ∙ with-class (rowsAt (p .height) (g .ctb) y) (luma-offsets _ _) (pieceClass p (g .ctb) copy columns rows (s / 4) (t / 4))
+        ∙ with-class (lumaRowsAtRow (p .height) (g .ctb) y) (luma-offsets _ _) (pieceClass p (g .ctb) copy columns rows (s / 4) (t / 4))
         (class-of-range _ _ _))
 
   -- at index k of the plane
   pub samples-same : (k : ℕ) → inRect (p .width) (columns .start) (columns .end) (rows .start) (rows .end) k ≡ true
-      → copySampleAt p (g .ctb) copy columns rows filters k ≡ atIndex (lumaPlane l) (lumaSample i) k
+      → lumaCopySampleAt p (g .ctb) copy columns rows filters k ≡ atIndex (lumaPlane l) (lumaSample i) k
   unfolding atIndex planeOf
   samples-same k inside =
       let f = rect-facts (p .width) (columns .start) (columns .end) (rows .start) (rows .end) k inside in

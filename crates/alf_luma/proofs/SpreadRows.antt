@@ -14,11 +14,11 @@ use Rattle.alf_pieces.specs.Copies.{extent, pitch}
 use Rattle.alf_lists.proofs.Regions.{run-facts, row-of, rect-facts}
 use Rattle.alf_taps.proofs.SpreadTaps.{taps-same}
 use Rattle.alf_luma.specs.Kernel.{current, plusSamples, minusSamples, filteredAt, rowFrom}
-use Rattle.alf_luma.specs.Samples.{rowsAt, startsOf, spreadSampleAt, pieceClass, copySample, copySampleAt}
+use Rattle.alf_luma.specs.Samples.{lumaRowsAtRow, startsOf, spreadSampleAt, pieceClass, lumaCopySample, lumaCopySampleAt}
 use Rattle.alf_luma.proofs.SpreadFilters.{RowFilters, ownCoeff, ownClip}
 
 pub row-value : (p : Picture) (ctb : ℕ) (copy : List ℕ) (taps : List ℤ) (left n top t i k : ℕ) → left + n ≤ p .width
-    → between ((top + i) * p .width + left) n k ≡ true → let r = rowsAt (p .height) ctb (top + i) in
+    → between ((top + i) * p .width + left) n k ≡ true → let r = lumaRowsAtRow (p .height) ctb (top + i) in
     rowFrom (p .«bit_depth») (r .shift) copy taps (startsOf (n + 6) (t + i) r) ((top + i) * p .width + left) k
     ≡ spreadSampleAt p ctb copy taps left n top t k
 unfolding spreadSampleAt
@@ -28,21 +28,21 @@ row-value p ctb copy taps left n top t i k fits run =
     let row : top + i ≡ k / p .width = sym (at .0) in
     let own : t + i ≡ t + (k / p .width - top) = omega arith in
     let column : k - ((top + i) * p .width + left) ≡ k % p .width - left = omega arith in
-    λ u. filteredAt (p .«bit_depth») (rowsAt (p .height) ctb (row u) .shift) copy taps
-    (startsOf (n + 6) (own u) (rowsAt (p .height) ctb (row u))) (column u)
+    λ u. filteredAt (p .«bit_depth») (lumaRowsAtRow (p .height) ctb (row u) .shift) copy taps
+    (startsOf (n + 6) (own u) (lumaRowsAtRow (p .height) ctb (row u))) (column u)
 
 module _ (p : Picture) (ctb : ℕ) (copy : List ℕ) (columns rows : Piece) (filters taps : List ℤ) (row : ℕ)
     (spread : RowFilters filters taps (λ b. pieceClass p ctb copy columns rows b row) (extent columns)) where
   pub blocks-value : (k : ℕ) → inRect (p .width) (columns .start) (columns .end) (rows .start + 4 * row)
       (rows .start + 4 * row + 4) k ≡ true
       → spreadSampleAt p ctb copy taps (columns .start) (extent columns) (rows .start + 4 * row) (4 * row) k
-      ≡ copySampleAt p ctb copy columns rows filters k
-  unfolding spreadSampleAt filteredAt copySample
+      ≡ lumaCopySampleAt p ctb copy columns rows filters k
+  unfolding spreadSampleAt filteredAt lumaCopySample
   blocks-value k inside =
       let f = rect-facts (p .width) (columns .start) (columns .end) (rows .start + 4 * row) (rows .start + 4 * row + 4) k inside in
       let y : ℕ = k / p .width in
       let s : ℕ = k % p .width - columns .start in
-      let r = rowsAt (p .height) ctb y in
+      let r = lumaRowsAtRow (p .height) ctb y in
       let own : 4 * row + (y - (rows .start + 4 * row)) ≡ y - rows .start = omega arith in
       let block : row ≡ (y - rows .start) / 4 = omega arith in
       let column : s < extent columns = omega arith in

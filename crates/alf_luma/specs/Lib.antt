@@ -1,4 +1,4 @@
 -- What the contracts of this crate say beside the definitions of `alf_spec`.
 pub mod Kernel
-pub mod Filters
+pub mod SpreadFilters
 pub mod Samples

@@ -1,6 +1,5 @@
 -- The filtered samples of a piece, from its copy. `proofs/PieceSamples` shows them to be those of `alf_spec`. Assumes nothing.
 use mathlib.Core.Path.{_≡_}
-use mathlib.Core.Bool.{true}
 use mathlib.Core.List.{List, []}
 use Prim.Native.Nat.{ℕ, _+_, _-_, _*_, _/_, _%_, _≤_, _<_}
 use lib.IntN.{ℤ, pos}
@@ -14,22 +13,21 @@ use Rattle.alf_spec.specs.Geometry.{lineRule, axisOf}
 use Rattle.alf_spec.specs.Classes.{classOf}
 use Rattle.alf_spec.specs.Luma.{tapOrder, lumaRows}
 use Rattle.alf_spec.specs.Process.{classNumber}
-use Rattle.alf_spec.specs.Faults.{pictureSizeValid, ctbSizeValid, bitDepthValid}
-use Rattle.alf_math.specs.Grids.{GridOf}
+use Rattle.alf_math.specs.Grids.{AcceptedPicture}
 use Rattle.alf_pieces.specs.declared.pieces.Piece.{Piece}
 use Rattle.alf_pieces.specs.Pieces.{BlockPiece}
 use Rattle.alf_pieces.specs.Copies.{extent, pitch, copyLength, area}
 use Rattle.alf_classify.specs.Windows.{copyWindow}
-use Rattle.alf_classify.specs.Work.{rowWindow}
+use Rattle.alf_classify.specs.PieceClasses.{rowWindow}
 use Rattle.alf_taps.specs.Spread.{TapNumbers}
 use Rattle.alf_luma.specs.declared.kernel.Starts.{Starts}
 use Rattle.alf_luma.specs.Kernel.{current, plusSamples, minusSamples, filteredAt}
 use Rattle.alf_params.specs.Filters.{FilterNumbers}
-use Rattle.alf_luma.specs.Filters.{Places}
+use Rattle.alf_luma.specs.SpreadFilters.{TapOrders}
 
--- Table 45 at row y
-abbrev pub rowsAt : ℕ → ℕ → ℕ → LumaRows
-rowsAt height ctb y = lumaRows (lineRule (axisOf height ctb [] 4 1) y) (ctb - y % ctb)
+-- Table 45 at row y of a picture of that height, with CTBs of that size
+abbrev pub lumaRowsAtRow : ℕ → ℕ → ℕ → LumaRows
+lumaRowsAtRow height ctb y = lumaRows (lineRule (axisOf height ctb [] 4 1) y) (ctb - y % ctb)
 
 -- the rows of the copy that the taps of the piece's row t read; the copy begins 3 rows before the piece
 abbrev pub startsOf : ℕ → ℕ → LumaRows → Starts
@@ -48,7 +46,7 @@ startsOf pitch t r = record {
 unfoldable pub spreadSampleAt : Picture → ℕ → List ℕ → List ℤ → ℕ → ℕ → ℕ → ℕ → ℕ → ℕ
 spreadSampleAt p ctb copy taps left n top t k =
     let y = k / p .width in
-    let r = rowsAt (p .height) ctb y in
+    let r = lumaRowsAtRow (p .height) ctb y in
     filteredAt (p .«bit_depth») (r .shift) copy taps (startsOf (n + 6) (t + (y - top)) r) (k % p .width - left)
 
 module _ (p : Picture) (ctb : ℕ) (copy : List ℕ) (columns rows : Piece) where
@@ -62,11 +60,11 @@ module _ (p : Picture) (ctb : ℕ) (copy : List ℕ) (columns rows : Piece) wher
   MapOf map = (b r : ℕ) → b < extent columns / 4 → r < extent rows / 4 → getD map (r * 32 + b) 0 ≡ classNumber (pieceClass b r)
 
   -- (1466) to (1469) at (x, y): the filter is that of the block's class
-  unfoldable pub copySample : List ℤ → ℕ → ℕ → ℕ
-  copySample filters x y =
+  unfoldable pub lumaCopySample : List ℤ → ℕ → ℕ → ℕ
+  lumaCopySample filters x y =
       let s = x - columns .start in
       let t = y - rows .start in
-      let r = rowsAt (p .height) ctb y in
+      let r = lumaRowsAtRow (p .height) ctb y in
       let starts = startsOf (pitch columns) t r in
       let class = pieceClass (s / 4) (t / 4) in
       filtered (p .«bit_depth») (r .shift) (current copy starts s)
@@ -76,23 +74,17 @@ module _ (p : Picture) (ctb : ℕ) (copy : List ℕ) (columns rows : Piece) wher
       (plusSamples copy starts s) (minusSamples copy starts s))
 
   -- at index k of the plane
-  abbrev pub copySampleAt : List ℤ → ℕ → ℕ
-  copySampleAt filters k = copySample filters (k % p .width) (k / p .width)
+  abbrev pub lumaCopySampleAt : List ℤ → ℕ → ℕ
+  lumaCopySampleAt filters k = lumaCopySample filters (k % p .width) (k / p .width)
 
 -- ---- what the functions are given
 
--- an accepted picture and its grid
-pub record Accepted (p : Picture) (g : Grid) : Type 0 where
-  pub grid : GridOf p g
-  pub sizes : pictureSizeValid p ≡ true
-  pub ctbSize : ctbSizeValid p ≡ true
-  pub depth : bitDepthValid p ≡ true
-
--- filters, tap order, spread numbers, and an output of the picture's size
-pub record FilterWork (p : Picture) (g : Grid) (filters : List ℤ) (places : List ℕ) (taps : List ℤ) (output : ℕ) : Type 0 where
-  pub picture : Accepted p g
+-- what a row of blocks is filtered with: an accepted picture, the filters of a CTB, the tap orders, room for the spread filters, and an output
+-- of the picture's size
+pub record BlockRowInput (p : Picture) (g : Grid) (filters : List ℤ) (orders : List ℕ) (taps : List ℤ) (output : ℕ) : Type 0 where
+  pub picture : AcceptedPicture p g
   pub numbers : FilterNumbers filters
-  pub order : Places places
+  pub order : TapOrders orders
   pub spread : TapNumbers taps
   pub outputLength : output ≡ p .width * p .height
 
@@ -103,10 +95,10 @@ pub record PieceCopy (p : Picture) (columns rows : Piece) (copy : List ℕ) : Ty
   pub room : copyLength columns rows ≤ length copy
   pub samples : (k : ℕ) → k < copyLength columns rows → getD copy k 0 < 4096
 
--- and the picture's luma samples, with room for the copy of a piece and for its differences
-pub record LumaWork (p : Picture) (g : Grid) (luma : List ℕ) (filters : List ℤ) (places : List ℕ) (copy differences : ℕ) (taps : List ℤ)
+-- what a piece is filtered with: beside that, the picture's luma samples, and room for the piece's copy and for its differences
+pub record LumaPieceInput (p : Picture) (g : Grid) (luma : List ℕ) (filters : List ℤ) (orders : List ℕ) (copy differences : ℕ) (taps : List ℤ)
     (output : ℕ) : Type 0 where
-  pub work : FilterWork p g filters places taps output
+  pub blocks : BlockRowInput p g filters orders taps output
   pub lumaLength : length luma ≡ p .width * p .height
   pub samples : (k : ℕ) → getD luma k 0 < 4096
   pub copyRoom : area ≤ copy

@@ -5,5 +5,5 @@ mod rows;
 mod spread;
 
 pub use piece::filter_piece;
-pub use spread::PLACES;
-pub use spread::tap_places;
+pub use spread::ORDERS;
+pub use spread::tap_orders;

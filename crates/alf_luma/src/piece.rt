@@ -9,14 +9,15 @@ ghost use Rattle.alf_spec.specs.Boundary.{columnSide, rowSide};
 ghost use Rattle.alf_spec.specs.Luma.{lumaSample};
 ghost use Rattle.alf_spec.specs.Process.{atIndex};
 ghost use Rattle.alf_spec.specs.declared.Ctb.{Ctb};
+ghost use Rattle.alf_math.specs.Grids.{AcceptedPicture};
 ghost use Rattle.alf_lists.specs.Regions.{between, inRect};
 ghost use Rattle.alf_pieces.specs.Pieces.{PieceOf, BlockPiece, CtbOf};
 ghost use Rattle.alf_pieces.specs.Copies.{extent as extentOf};
 ghost use Rattle.alf_taps.specs.Spread.{TapNumbers};
 ghost use Rattle.alf_luma.specs.Kernel.{rowFrom};
 ghost use Rattle.alf_params.specs.Filters.{LumaFilters};
-ghost use Rattle.alf_luma.specs.Samples.{rowsAt, startsOf, spreadSampleAt, MapOf, copySampleAt, Accepted, FilterWork, PieceCopy};
-ghost use Rattle.alf_luma.specs.Samples.{LumaWork};
+ghost use Rattle.alf_luma.specs.Samples.{lumaRowsAtRow, startsOf, spreadSampleAt, MapOf, lumaCopySampleAt, BlockRowInput, PieceCopy};
+ghost use Rattle.alf_luma.specs.Samples.{LumaPieceInput};
 use crate::kernel::Starts;
 use crate::kernel::luma_row;
 use crate::rows::luma_rows;
@@ -67,9 +68,9 @@ fn filter_row(
     from: usize,
     n: usize,
 )
-    requires { ⌜ (Accepted picture grid) × (y ≤ 4096) × (pitch ≡ n + 6) × (n ≤ 128) × (t ≤ 127) × ((t + 7) * pitch ≤ length (now copy))
+    requires { ⌜ (AcceptedPicture picture grid) × (y ≤ 4096) × (pitch ≡ n + 6) × (n ≤ 128) × (t ≤ 127) × ((t + 7) * pitch ≤ length (now copy))
         × ((k : ℕ) → k < (t + 7) * pitch → getD (now copy) k 0 < 4096) × (TapNumbers (now taps)) × (from + n ≤ length (now output)) ⌝ }
-    ensures { λ _. ⌜ (let r = rowsAt (picture .height) (grid .ctb) y in now (output .exit) ≡ painted (now (output .entry)) (between from n)
+    ensures { λ _. ⌜ (let r = lumaRowsAtRow (picture .height) (grid .ctb) y in now (output .exit) ≡ painted (now (output .entry)) (between from n)
         (rowFrom (picture .«bit_depth») (r .shift) (now (copy .entry)) (now (taps .entry)) (startsOf pitch t r) from)) ⌝ }
 {
     let line = line_rule(picture.height, grid.ctb, y);
@@ -91,7 +92,7 @@ fn filter_four(
     taps: &[i16],
     output: &mut [u16],
 )
-    requires { ⌜ (Accepted picture grid) × (left + n ≤ picture .width) × (n ≤ 128) × (top + 4 ≤ picture .height) × (t + 4 ≤ 128)
+    requires { ⌜ (AcceptedPicture picture grid) × (left + n ≤ picture .width) × (n ≤ 128) × (top + 4 ≤ picture .height) × (t + 4 ≤ 128)
         × ((t + 10) * (n + 6) ≤ length (now copy)) × ((k : ℕ) → k < (t + 10) * (n + 6) → getD (now copy) k 0 < 4096)
         × (TapNumbers (now taps))
         × (length (now output) ≡ picture .width * picture .height) ⌝ }
@@ -127,23 +128,23 @@ fn filter_blocks(
     rows: Piece,
     row: usize,
     filters: &[i16],
-    places: &[u8],
+    orders: &[u8],
     map: &[u8],
     copy: &[u16],
     taps: &mut [i16],
     output: &mut [u16],
 )
-    requires { ⌜ (FilterWork picture grid (now filters) (now places) (now taps) (length (now output)))
+    requires { ⌜ (BlockRowInput picture grid (now filters) (now orders) (now taps) (length (now output)))
         × (PieceCopy picture columns rows (now copy))
         × (length (now map) ≡ 1024) × (MapOf picture (grid .ctb) (now copy) columns rows (now map)) × (row < extentOf rows / 4) ⌝ }
     ensures { λ _. ⌜ (now (output .exit) ≡ painted (now (output .entry))
         (inRect (picture .width) (columns .start) (columns .end) (rows .start + 4 * row) (rows .start + 4 * row + 4))
-        (copySampleAt picture (grid .ctb) (now (copy .entry)) columns rows (now (filters .entry)))) × (TapNumbers (now (taps .exit))) ⌝ }
+        (lumaCopySampleAt picture (grid .ctb) (now (copy .entry)) columns rows (now (filters .entry)))) × (TapNumbers (now (taps .exit))) ⌝ }
 {
     let n = extent(columns);
     let left = columns.start as usize;
     let top = rows.start as usize + 4 * row;
-    spread(filters, places, map, row * BLOCKS, n / 4, taps);
+    spread(filters, orders, map, row * BLOCKS, n / 4, taps);
     filter_four(picture, grid, left, n, top, 4 * row, copy, taps, output);
 }
 
@@ -154,18 +155,18 @@ fn filter_copy(
     columns: Piece,
     rows: Piece,
     filters: &[i16],
-    places: &[u8],
+    orders: &[u8],
     map: &[u8],
     copy: &[u16],
     taps: &mut [i16],
     output: &mut [u16],
 )
-    requires { ⌜ (FilterWork picture grid (now filters) (now places) (now taps) (length (now output)))
+    requires { ⌜ (BlockRowInput picture grid (now filters) (now orders) (now taps) (length (now output)))
         × (PieceCopy picture columns rows (now copy))
         × (length (now map) ≡ 1024) × (MapOf picture (grid .ctb) (now copy) columns rows (now map)) ⌝ }
     ensures { λ _. ⌜ (now (output .exit) ≡ painted (now (output .entry))
         (inRect (picture .width) (columns .start) (columns .end) (rows .start) (rows .end))
-        (copySampleAt picture (grid .ctb) (now (copy .entry)) columns rows (now (filters .entry)))) × (TapNumbers (now (taps .exit))) ⌝ }
+        (lumaCopySampleAt picture (grid .ctb) (now (copy .entry)) columns rows (now (filters .entry)))) × (TapNumbers (now (taps .exit))) ⌝ }
 {
     let count = extent(rows) / 4;
     let mut row: usize = 0;
@@ -177,7 +178,7 @@ fn filter_copy(
             rows,
             row,
             filters,
-            places,
+            orders,
             map,
             copy,
             taps,
@@ -197,13 +198,13 @@ pub fn filter_piece(
     rows: Piece,
     luma: &[u16],
     filters: &[i16],
-    places: &[u8],
+    orders: &[u8],
     copy: &mut [u16],
     differences: &mut [u16],
     taps: &mut [i16],
     output: &mut [u16],
 )
-    requires { ⌜ (LumaWork picture grid (now luma) (now filters) (now places) (length (now copy)) (length (now differences)) (now taps)
+    requires { ⌜ (LumaPieceInput picture grid (now luma) (now filters) (now orders) (length (now copy)) (length (now differences)) (now taps)
         (length (now output)))
         × (BlockPiece (picture .width) columns) × (BlockPiece (picture .height) rows) ⌝ }
     ensures { λ _. ⌜ ((i : Input) (c : Ctb) → CtbOf (i .layout) picture c sides → i .luma ≡ now (luma .entry)
@@ -234,7 +235,7 @@ pub fn filter_piece(
         columns,
         rows,
         filters,
-        places,
+        orders,
         &map,
         copy,
         taps,

@@ -13,7 +13,7 @@ use Rattle.alf_spec.specs.Arithmetic.{tap, tapSum}
 use Rattle.alf_spec.proofs.Lists.{sum-sameℤ}
 use Rattle.alf_math.proofs.Magnitude.{abs-tap, abs-tap-sum}
 use Rattle.alf_math.proofs.TapByTap.{Summed, summed-more}
-use Rattle.alf_taps.specs.Spread.{clipPlace, spreadCoeff, spreadClip, TapNumbers}
+use Rattle.alf_taps.specs.Spread.{clipsAt, spreadCoeff, spreadClip, TapNumbers}
 
 -- what a kernel has of the sample `curr` at column x: the taps' numbers are in their ranges, and the first `end` places of the copy are
 -- samples
@@ -37,14 +37,14 @@ module _ {copy : List ℕ} {taps : List ℤ} {x curr end : ℕ} (given : TapsGiv
   pub tap-added : {n : ℕ} {z r : ℤ} → SpreadSum taps x curr plus minus n z → n < 12 → mag r < 2 ^ hbits w32
       → r ≡ z +ℤ spreadTap taps x curr plus minus n → SpreadSum taps x curr plus minus (suc n) (toZ w32 (ofZ w32 r))
   tap-added {n} sum few ok e =
-      let inRow : 128 * n + x < clipPlace = omega (arith, given .column) in
+      let inRow : 128 * n + x < clipsAt = omega (arith, given .column) in
       summed-more sum (abs-tap curr _ _ (given .numbers .coefficients _ inRow) (given .numbers .clips _ inRow .small) _ _) ok e
 
   -- what the next call asks of its sum, its neighbours, at columns i and j of the rows at p and m, and of its row of coefficients
   pub tap-ready : {n : ℕ} {z : ℤ} (p i m j at : ℕ) → SpreadSum taps x curr plus minus n z
       → (n ≤ 11) × (p + x + i < end) × (m + x + j < end) × (at ≤ 1408)
       → (natAbs z ≤ 11 * 2 ^ 20) × (curr < 4096) × (p + x + i < length copy) × (m + x + j < length copy)
-      × (getD copy (p + x + i) 0 < 4096) × (getD copy (m + x + j) 0 < 4096) × (at + x < clipPlace) × TapNumbers taps
+      × (getD copy (p + x + i) 0 < 4096) × (getD copy (m + x + j) 0 < 4096) × (at + x < clipsAt) × TapNumbers taps
   tap-ready p i m j at sum h = (
     omega (arith, sum .small),
     given .sample,

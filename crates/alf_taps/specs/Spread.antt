@@ -7,8 +7,8 @@ use lib.ListN.{length, getD}
 use Rattle.alf_math.specs.Integers.{CoeffRange, ClipRange}
 
 -- where the clips begin
-abbrev pub clipPlace : ℕ
-clipPlace = 1536
+abbrev pub clipsAt : ℕ
+clipsAt = 1536
 
 -- the coefficient of tap j at column x
 abbrev pub spreadCoeff : List ℤ → ℕ → ℕ → ℤ
@@ -16,10 +16,10 @@ spreadCoeff taps x j = getD taps (128 * j + x) (pos 0)
 
 -- and its clip
 abbrev pub spreadClip : List ℤ → ℕ → ℕ → ℤ
-spreadClip taps x j = getD taps (clipPlace + (128 * j + x)) (pos 0)
+spreadClip taps x j = getD taps (clipsAt + (128 * j + x)) (pos 0)
 
 -- all are in their ranges
 pub record TapNumbers (taps : List ℤ) : Type 0 where
-  pub room : 2 * clipPlace ≤ length taps
-  pub coefficients : (k : ℕ) → k < clipPlace → CoeffRange (getD taps k (pos 0))
-  pub clips : (k : ℕ) → k < clipPlace → ClipRange (getD taps (clipPlace + k) (pos 0))
+  pub room : 2 * clipsAt ≤ length taps
+  pub coefficients : (k : ℕ) → k < clipsAt → CoeffRange (getD taps k (pos 0))
+  pub clips : (k : ℕ) → k < clipsAt → ClipRange (getD taps (clipsAt + k) (pos 0))

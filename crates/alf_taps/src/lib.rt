@@ -5,7 +5,7 @@ ghost use Prim.Native.Nat.{_+_, _*_, _^_, _≤_, _<_};
 ghost use lib.ListN.{length, getD};
 ghost use lib.IntN.{pos, natAbs, _+ℤ_};
 ghost use Rattle.alf_spec.specs.Arithmetic.{tap as tapOf};
-ghost use Rattle.alf_taps.specs.Spread.{clipPlace, TapNumbers};
+ghost use Rattle.alf_taps.specs.Spread.{clipsAt, TapNumbers};
 use alf_math::taps::tap;
 
 // Of a filter's spread numbers, how many a row has, how many come before the clips, and how many there are.
@@ -30,10 +30,10 @@ pub fn add_tap(
     at: usize,
 ) -> i32
     requires { ⌜ (natAbs sum ≤ 11 * 2 ^ 20) × (curr < 4096) × (plus + x + i < length (now copy)) × (minus + x + j < length (now copy))
-        × (getD (now copy) (plus + x + i) 0 < 4096) × (getD (now copy) (minus + x + j) 0 < 4096) × (at + x < clipPlace)
+        × (getD (now copy) (plus + x + i) 0 < 4096) × (getD (now copy) (minus + x + j) 0 < 4096) × (at + x < clipsAt)
         × (TapNumbers (now taps)) ⌝ }
     ensures { λ r. ⌜ r ≡ sum +ℤ tapOf curr (getD (now (taps .entry)) (at + x) (pos 0))
-        (getD (now (taps .entry)) (clipPlace + (at + x)) (pos 0))
+        (getD (now (taps .entry)) (clipsAt + (at + x)) (pos 0))
         (getD (now (copy .entry)) (plus + x + i) 0) (getD (now (copy .entry)) (minus + x + j) 0) ⌝ }
 {
     sum

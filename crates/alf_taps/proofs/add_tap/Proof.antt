@@ -12,7 +12,7 @@ use mir.Val.{SFits, toZ, ofZ}
 use Rattle.alf_spec.specs.Arithmetic.{tap}
 use Rattle.alf_math.specs.Integers.{CoeffRange, ClipRange}
 use Rattle.alf_math.proofs.Magnitude.{abs-add, abs-tap, fits-abs, returned}
-use Rattle.alf_taps.specs.Spread.{clipPlace}
+use Rattle.alf_taps.specs.Spread.{clipsAt}
 use Rattle.alf_taps.proofs.add_tap.Statement.{statement}
 use Rattle.alf_taps.proofs.add_tap.Tie as tie
 
@@ -20,7 +20,7 @@ abbrev coeff : tie.Start → ℤ
 coeff s = let a = s .args in getD (now (a .taps)) (a .at + a .x) (pos 0)
 
 abbrev clip : tie.Start → ℤ
-clip s = let a = s .args in getD (now (a .taps)) (clipPlace + (a .at + a .x)) (pos 0)
+clip s = let a = s .args in getD (now (a .taps)) (clipsAt + (a .at + a .x)) (pos 0)
 
 coeff-range : (s : tie.Start) → CoeffRange (coeff s)
 coeff-range s = s .pre .7 .coefficients _ (s .pre .6)

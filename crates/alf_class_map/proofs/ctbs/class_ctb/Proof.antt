@@ -39,8 +39,8 @@ start c = c .before .before .before .before .before .before .before .before .bef
 
 -- a CTB's place in the grid
 few : (s : tie.Start Inv-loop μ-loop) → s .args .ctb .row ≤ 128
-few s = place-bound (s .pre .0 .rooms .grid .ctbLow)
-    (height-bounds (s .args .picture) (s .pre .0 .rooms .sizes) (s .pre .0 .rooms .ctbSize) .1) (s .pre .4)
+few s = place-bound (s .pre .0 .rooms .picture .grid .ctbLow)
+    (height-bounds (s .args .picture) (s .pre .0 .rooms .picture .sizes) (s .pre .0 .rooms .picture .ctbSize) .1) (s .pre .4)
 
 loop-holds : tie.Need-loop-holds Inv-loop μ-loop
 loop-holds c = (
@@ -57,7 +57,7 @@ found : (c : tie.After-row-piece Inv-loop μ-loop) → let a = start (c .before)
     (c .before .before .loop .y) (c .row-piece .result)
 found c =
     let s = start (c .before) in
-    let work = s .pre .0 .rooms in
+    let work = s .pre .0 .rooms .picture in
     turn (rows-regular (work .grid) (work .sizes) (work .ctbSize) (s .pre .2) 4 1) whole walk-luma (work .grid .ctbHigh)
     (c .before .before .loop .inv .0)
     (omega (arith, c .before .before .before .ctb-limit .ensures, c .before .loop-test .taken)) (c .row-piece .ensures)
@@ -86,7 +86,7 @@ loop-again c =
       λ l of e r.
           paint-stacked _ _ _ _ _ _ (inv .4 l of e r)
           (c .before .before .before .before .before .before .class-strip .ensures l of e
-          (row-piece of 1 1 4 (s .pre .0 .rooms .grid) r (t .piece)))
+          (row-piece of 1 1 4 (s .pre .0 .rooms .picture .grid) r (t .piece)))
           (ap (λ (n : ℕ). n / 4) (t .start)) (omega (arith, inv .0 .from)) (omega (arith, t .start, t .facts .numbers .filled)),
     )
 
@@ -103,12 +103,12 @@ class-ctb-spec =
     Inv-loop
     μ-loop
     (λ c. omega arith)
-    (λ c κs. let s = c .before .before .before .before .before .before .before .before in (s .pre .0 .rooms .grid .ctbHigh, few s))
+    (λ c κs. let s = c .before .before .before .before .before .before .before .before in (s .pre .0 .rooms .picture .grid .ctbHigh, few s))
     loop-holds
     (λ c κs.
     let s = start c in
-    let most = height-bounds (s .args .picture) (s .pre .0 .rooms .sizes) (s .pre .0 .rooms .ctbSize) in (
-      s .pre .0 .rooms .grid,
+    let most = height-bounds (s .args .picture) (s .pre .0 .rooms .picture .sizes) (s .pre .0 .rooms .picture .ctbSize) in (
+      s .pre .0 .rooms .picture .grid,
       omega arith,
       omega arith,
       omega arith,

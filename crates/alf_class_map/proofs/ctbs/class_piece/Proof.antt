@@ -53,7 +53,7 @@ returns c =
     let written = rw (blocks (pre .1) .last, blocks (pre .2) .last) at (c .before .before .before .before .piece-classes .ensures) in
     λ l ctb of across down.
     paint-is (paint-same (paint-of written) (λ k h. refl)
-    (λ k h. class-same of (pre .0 .rooms .grid) across down _ _ _ (f .copy-piece .ensures) (room f) k))
+    (λ k h. class-same of (pre .0 .rooms .picture .grid) across down _ _ _ (f .copy-piece .ensures) (room f) k))
 
 pub class-piece-spec : {M : Type 1} → statement M
 class-piece-spec =

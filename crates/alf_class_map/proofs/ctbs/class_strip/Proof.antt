@@ -41,8 +41,8 @@ start c = c .before .before .before .before .before .before .before .before .bef
 
 -- a CTB's place in the grid
 few : (s : tie.Start Inv-loop μ-loop) → s .args .ctb .column ≤ 128
-few s = place-bound (s .pre .0 .rooms .grid .ctbLow)
-    (width-bounds (s .args .picture) (s .pre .0 .rooms .sizes) (s .pre .0 .rooms .ctbSize) .1) (s .pre .3)
+few s = place-bound (s .pre .0 .rooms .picture .grid .ctbLow)
+    (width-bounds (s .args .picture) (s .pre .0 .rooms .picture .sizes) (s .pre .0 .rooms .picture .ctbSize) .1) (s .pre .3)
 
 loop-holds : tie.Need-loop-holds Inv-loop μ-loop
 loop-holds c = (
@@ -60,7 +60,7 @@ found : (c : tie.After-column-piece Inv-loop μ-loop) → let a = start (c .befo
     (c .before .before .loop .x) (c .column-piece .result)
 found c =
     let s = start (c .before) in
-    let work = s .pre .0 .rooms in
+    let work = s .pre .0 .rooms .picture in
     turn (columns-regular (work .grid) (work .sizes) (work .ctbSize) (s .pre .1) 1) whole walk-none (work .grid .ctbHigh)
     (c .before .before .loop .inv .0)
     (omega (arith, c .before .before .before .ctb-limit .ensures, c .before .loop-test .taken)) (c .column-piece .ensures)
@@ -89,7 +89,7 @@ loop-again c =
       λ l of e down.
           paint-beside _ _ _ _ _ _ (inv .4 l of e down)
           (c .before .before .before .before .before .before .class-piece .ensures l _ of
-          (column-piece of 1 1 4 (s .pre .0 .rooms .grid) e (t .piece)) down)
+          (column-piece of 1 1 4 (s .pre .0 .rooms .picture .grid) e (t .piece)) down)
           (ap (λ (n : ℕ). n / 4) (t .start)) (omega (arith, inv .0 .from)) (omega (arith, t .start, t .facts .numbers .filled)),
     )
 
@@ -106,12 +106,12 @@ class-strip-spec =
     Inv-loop
     μ-loop
     (λ c. omega arith)
-    (λ c κs. let s = c .before .before .before .before .before .before .before in (s .pre .0 .rooms .grid .ctbHigh, few s))
+    (λ c κs. let s = c .before .before .before .before .before .before .before in (s .pre .0 .rooms .picture .grid .ctbHigh, few s))
     loop-holds
     (λ c κs.
     let s = start c in
-    let most = width-bounds (s .args .picture) (s .pre .0 .rooms .sizes) (s .pre .0 .rooms .ctbSize) in (
-      s .pre .0 .rooms .grid,
+    let most = width-bounds (s .args .picture) (s .pre .0 .rooms .picture .sizes) (s .pre .0 .rooms .picture .ctbSize) in (
+      s .pre .0 .rooms .picture .grid,
       omega arith,
       omega arith,
       few s,

@@ -12,7 +12,7 @@ use Rattle.alf_lists.specs.Regions.{inRect}
 use Rattle.alf_pieces.specs.Copies.{extent, pitch as pitchOf, area}
 use Rattle.alf_lists.proofs.Painted.{Paint, paint-of, paint-is, paint-none, paint-call}
 use Rattle.alf_lists.proofs.Regions.{rect-none, rect-more}
-use Rattle.alf_classify.specs.Work.{copyClassAt}
+use Rattle.alf_classify.specs.PieceClasses.{copyClassAt}
 use Rattle.alf_classify.proofs.PieceRows.{Prepared, blocks, copy-bounds, row-ready, row-number}
 use Rattle.alf_classify.proofs.WindowSums.{RowBounds, row-bounds}
 use Rattle.alf_classify.proofs.blocks.piece_classes.Statement.{statement}
@@ -85,14 +85,14 @@ row-inside c =
       N .high,
       N .inside,
       blocks (s .pre .2) .few,
-      height-bounds _ (s .pre .0 .sizes) (s .pre .0 .ctbSize) .1,
+      height-bounds _ (s .pre .0 .picture .sizes) (s .pre .0 .picture .ctbSize) .1,
     )
 
 window-bounds : (c : tie.After-row-window Inv-loop μ-loop) → RowBounds (c .row-window .result)
 window-bounds c = rw (c .row-window .ensures) (row-bounds _ _ _)
 
-window-place-requires : tie.Need-window-place-requires Inv-loop μ-loop
-window-place-requires c κs =
+window-index-requires : tie.Need-window-index-requires Inv-loop μ-loop
+window-index-requires c κs =
     let i = row-inside (c .before .before) in
     let w = window-bounds c in
     let P = c .before .before .before .loop .inv .2 in
@@ -106,9 +106,9 @@ class-row-requires c κs =
     let P = l .inv .2 in
     let window = c .before .before .before .before in
     let w = window-bounds window in
-    let depth = depth-bounds _ (s .pre .0 .depth) in
+    let depth = depth-bounds _ (s .pre .0 .picture .depth) in
     let r = row-ready (s .args .picture) (s .args .grid .ctb) _ _ _ P (l .row) (row-inside turn .0) _ (window .row-window .ensures)
-    _ _ (c .before .before .before .window-place .ensures) _ _ _ (l .inv .1) (c .before .before .map-place .ensures) (s .pre .4 .down) in
+    _ _ (c .before .before .before .window-index .ensures) _ _ _ (l .inv .1) (c .before .before .map-index .ensures) (s .pre .4 .down) in
     (P .few, r .0, w .2, w .3, w .4, depth .0, depth .1, omega (arith, r .1, l .inv .3), r .2, r .3)
 
 loop-again : tie.Need-loop-again Inv-loop μ-loop
@@ -118,8 +118,8 @@ loop-again c =
     let s = begin turn in
     let P = l .inv .2 in
     let window = c .before .before .before .before .before .before .before in
-    let place = c .before .before .before .before .before .before .window-place .ensures in
-    let at = c .before .before .before .before .before .map-place .ensures in
+    let index = c .before .before .before .before .before .before .window-index .ensures in
+    let at = c .before .before .before .before .before .map-index .ensures in
     let row = c .before .before .class-row .ensures in
     let next : s .args .top + (l .row + 1) ≡ s .args .top + l .row + 1 = omega arith in (
       omega (arith, row-inside turn .0),
@@ -129,7 +129,7 @@ loop-again c =
       λ columns e.
           paint-call _ _ (l .inv .4 columns e) row
           (λ k h t. row-number (s .args .picture) (s .args .grid .ctb) _ _ _ P (l .row) (row-inside turn .0) _ (window .row-window .ensures)
-          _ _ place _ _ _ (l .inv .1) at columns e k t)
+          _ _ index _ _ _ (l .inv .1) at columns e k t)
           (λ k h. rw (at, next) (rect-more _ _ _ _ _ (l .inv .1) (omega arith) k)),
     )
 
@@ -158,8 +158,8 @@ piece-classes-spec =
     loop-holds
     (λ c. search (needs, row-inside c))
     (λ c. search (needs, row-inside (c .before)))
-    (λ c κs. let g = begin (c .before) .pre .0 .grid in omega (arith, g .ctbLow, g .ctbHigh, row-inside (c .before)))
-    window-place-requires
+    (λ c κs. let g = begin (c .before) .pre .0 .picture .grid in omega (arith, g .ctbLow, g .ctbHigh, row-inside (c .before)))
+    window-index-requires
     (λ c κs.
     let turn = c .before .before .before in
     let room = begin turn .pre .4 in

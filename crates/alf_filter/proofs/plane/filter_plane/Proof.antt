@@ -48,10 +48,10 @@ gridded c = c .before .before
 abbrev planned : tie.After-mark-listed → tie.After-plan-sides
 planned c = c .before .before .before
 
-abbrev marked : tie.After-tap-places → tie.After-mark-listed
+abbrev marked : tie.After-tap-orders → tie.After-mark-listed
 marked c = c .before .before .before
 
-abbrev ordered : tie.After-copy-input → tie.After-tap-places
+abbrev ordered : tie.After-copy-input → tie.After-tap-orders
 ordered c = c .before .before .before
 
 abbrev copied : tie.After-filter-marked-arg → tie.After-copy-input
@@ -86,7 +86,7 @@ filter-marked-requires c κs =
     let known = gridded sides in
     let s = start (known .before) in
     let f = s .args .filter in (
-      tables-accepted f (input s) (s .pre) (known .grid .ensures) (ordered copy .tap-places .ensures),
+      tables-accepted f (input s) (s .pre) (known .grid .ensures) (ordered copy .tap-orders .ensures),
       sides .plan-sides .ensures .0 ∙ length-replicate 16384 zero,
       marks .mark-listed .ensures .0 ∙ length-replicate 16384 zero,
       marks-on f (input s) (marks .mark-listed .ensures .1 (input s) refl),

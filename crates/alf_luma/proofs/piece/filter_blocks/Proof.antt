@@ -15,7 +15,7 @@ use Rattle.alf_pieces.specs.Copies.{extent, pitch, copyLength}
 use Rattle.alf_lists.proofs.Painted.{paint-is, paint-of, paint-same}
 use Rattle.alf_classify.proofs.PieceRows.{Blocks, blocks}
 use Rattle.alf_taps.specs.Spread.{TapNumbers}
-use Rattle.alf_luma.specs.Filters.{spreadFrom}
+use Rattle.alf_luma.specs.SpreadFilters.{spreadFrom}
 use Rattle.alf_luma.specs.Samples.{pieceClass}
 use Rattle.alf_luma.proofs.SpreadFilters.{class-of-range, number-parts, RowFilters, row-filters, spread-numbers}
 use Rattle.alf_luma.proofs.SpreadRows.{blocks-value}
@@ -59,7 +59,7 @@ abbrev SpreadRow : tie.After-spread → List ℤ → Type 0
 SpreadRow c taps =
     let a = start (found c) .args in
     Filled (pos 0) (a .taps .now) (inRect 128 0 (4 * (extent (a .columns) / 4)) 0 24)
-    (spreadFrom (a .filters .now) (a .places .now) (a .map .now) (a .row * 32)) taps
+    (spreadFrom (a .filters .now) (a .orders .now) (a .map .now) (a .row * 32)) taps
 
 module _ (c : tie.After-spread) {taps : List ℤ} (filled : SpreadRow c taps) where
   abbrev s : tie.Start
@@ -75,14 +75,14 @@ module _ (c : tie.After-spread) {taps : List ℤ} (filled : SpreadRow c taps) wh
   taps-valid : TapNumbers taps
   taps-valid =
       let a = s .args in
-      spread-numbers (a .filters .now) (a .places .now) (a .map .now) (a .row * 32) _ (class (found c)) filled (s .pre .0 .order)
+      spread-numbers (a .filters .now) (a .orders .now) (a .map .now) (a .row * 32) _ (class (found c)) filled (s .pre .0 .order)
       (s .pre .0 .spread .room)
       few numbers (λ b. class-of-range _ _ _) (s .pre .0 .numbers) (s .pre .0 .spread)
 
   own-filters : RowFilters (s .args .filters .now) taps (class (found c)) (extent (s .args .columns))
   own-filters =
       let a = s .args in
-      row-filters (a .filters .now) (a .places .now) (a .map .now) (a .row * 32) _ (class (found c)) filled (s .pre .0 .order)
+      row-filters (a .filters .now) (a .orders .now) (a .map .now) (a .row * 32) _ (class (found c)) filled (s .pre .0 .order)
       (s .pre .0 .spread .room)
       few numbers (λ b. class-of-range _ _ _) _ (omega (arith, across (found c) .whole))
 

@@ -12,18 +12,18 @@ use Rattle.alf_lists.proofs.PaintedRects.{paint-stacked}
 use Rattle.alf_lists.proofs.Regions.{rect-none}
 use Rattle.alf_classify.proofs.PieceRows.{blocks}
 use Rattle.alf_taps.specs.Spread.{TapNumbers}
-use Rattle.alf_luma.specs.Samples.{copySampleAt}
+use Rattle.alf_luma.specs.Samples.{lumaCopySampleAt}
 use Rattle.alf_luma.proofs.piece.filter_copy.Statement.{statement}
 use Rattle.alf_luma.proofs.piece.filter_copy.Tie as tie
 
 abbrev Inv-loop : tie.InvT-loop
-Inv-loop picture grid columns rows filters places map copy taps₀ output₀ count row₀ taps output row =
+Inv-loop picture grid columns rows filters orders map copy taps₀ output₀ count row₀ taps output row =
     (row ≤ extent rows / 4) × TapNumbers taps × (length taps ≡ length taps₀)
     × Paint output₀ (inRect (picture .width) (columns .start) (columns .end) (rows .start) (rows .start + 4 * row))
-    (copySampleAt picture (grid .ctb) copy columns rows filters) output
+    (lumaCopySampleAt picture (grid .ctb) copy columns rows filters) output
 
 abbrev μ-loop : tie.MeasureT-loop
-μ-loop picture grid columns rows filters places map copy taps₀ output₀ count row₀ taps output row = count - row
+μ-loop picture grid columns rows filters orders map copy taps₀ output₀ count row₀ taps output row = count - row
 
 -- what the function is given
 abbrev start : tie.After-extent Inv-loop μ-loop → tie.Start Inv-loop μ-loop

@@ -34,14 +34,10 @@ piece-classes-requires c κs =
     let f = c .before .before .before .before .before in
     let copies = f .copy-piece .ensures in
     let pre = start f .pre in
-    let picture = pre .0 .work .picture in
     let columns = blocks (pre .1) in
     let rows = blocks (pre .2) in (
       record {
-        grid = picture .grid;
-        sizes = picture .sizes;
-        ctbSize = picture .ctbSize;
-        depth = picture .depth;
+        picture = pre .0 .blocks .picture;
         copyRoom = rw (paint-of copies .len) (pre .0 .copyRoom);
         differenceRoom = pre .0 .differenceRoom;
       },
@@ -66,7 +62,7 @@ filter-copy-requires c κs =
     let f = copied done in
     let copies = f .copy-piece .ensures in
     let pre = start f .pre in (
-      pre .0 .work,
+      pre .0 .blocks,
       record {
         across = pre .1;
         down = pre .2;
@@ -84,7 +80,7 @@ returns c =
     let s = start f in (
       (λ i ctb of same own across down.
           paint-is (paint-same (paint-of (done .0)) (λ k h. refl)
-          (λ k h t. samples-same of (s .pre .0 .work .picture .grid) across down _ _ same (f .copy-piece .ensures) (room f) _ own k t))),
+          (λ k h t. samples-same of (s .pre .0 .blocks .picture .grid) across down _ _ same (f .copy-piece .ensures) (room f) _ own k t))),
       done .1,
     )
 

@@ -7,7 +7,7 @@ use native.Mathlib.Omega.{arith}
 use borrow.Author.Needs.{needs}
 use Rattle.alf_math.proofs.Grids.{depth-bounds}
 use Rattle.alf_spec.specs.Geometry.{axisOf}
-use Rattle.alf_luma.specs.Samples.{rowsAt}
+use Rattle.alf_luma.specs.Samples.{lumaRowsAtRow}
 use Rattle.alf_luma.proofs.TapRows.{Rising, rising, row-reads}
 use Rattle.alf_luma.proofs.piece.filter_row.Statement.{statement}
 use Rattle.alf_luma.proofs.piece.filter_row.Tie as tie
@@ -17,7 +17,7 @@ abbrev start : tie.After-luma-rows → tie.Start
 start c = c .before .before .before .before .before .before
 
 -- the offsets are those of Table 45 at row y
-rows-are : (c : tie.After-luma-rows) → let a = start c .args in c .luma-rows .result ≡ rowsAt (a .picture .height) (a .grid .ctb) (a .y)
+rows-are : (c : tie.After-luma-rows) → let a = start c .args in c .luma-rows .result ≡ lumaRowsAtRow (a .picture .height) (a .grid .ctb) (a .y)
 rows-are c =
     let a = start c .args in
     rw (c .before .before .before .line-rule .ensures (axisOf (a .picture .height) (a .grid .ctb) [] 4 1) refl refl) at

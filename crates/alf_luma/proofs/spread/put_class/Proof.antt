@@ -1,7 +1,7 @@
 -- `alf_luma::spread::put_class` meets its contract. Assumes nothing.
 use native.Mathlib.Omega.{arith}
 use borrow.Author.Needs.{needs}
-use Rattle.alf_luma.proofs.FilterNumbers.{numbers-small, places-small}
+use Rattle.alf_luma.proofs.FilterNumbers.{numbers-small, orders-small}
 use Rattle.alf_luma.proofs.spread.put_class.Statement.{statement}
 use Rattle.alf_luma.proofs.spread.put_class.Tie as tie
 
@@ -12,7 +12,7 @@ put-filter-requires c κs =
       omega (arith, s .pre .1 .count),
       s .pre .4,
       s .pre .5,
-      places-small (s .pre .1) _ (s .pre .3),
+      orders-small (s .pre .1) _ (s .pre .3),
       numbers-small (s .pre .0),
     )
 

@@ -16,21 +16,21 @@ use Rattle.alf_lists.specs.Regions.{between, inRect}
 use Rattle.alf_lists.specs.Filled.{Filled}
 use Rattle.alf_lists.proofs.Painted.{fill-none, fill-call}
 use Rattle.alf_lists.proofs.Regions.{rect-none, rect-more, run-facts, row-of}
-use Rattle.alf_luma.specs.Filters.{numberFrom}
+use Rattle.alf_luma.specs.SpreadFilters.{numberFrom}
 use Rattle.alf_luma.proofs.spread.put_filter.Statement.{statement}
 use Rattle.alf_luma.proofs.spread.put_filter.Tie as tie
 
 abbrev Inv-loop : tie.InvT-loop
-Inv-loop filters from places at taps₀ to j₀ taps j =
-    (j ≤ 24) × Filled (pos 0) taps₀ (inRect 128 to (to + 4) 0 j) (numberFrom filters from places at) taps
+Inv-loop filters from orders at taps₀ to j₀ taps j =
+    (j ≤ 24) × Filled (pos 0) taps₀ (inRect 128 to (to + 4) 0 j) (numberFrom filters from orders at) taps
 
 abbrev μ-loop : tie.MeasureT-loop
-μ-loop filters from places at taps₀ to j₀ taps j = 24 - j
+μ-loop filters from orders at taps₀ to j₀ taps j = 24 - j
 
--- the place that a turn finds
-place-small : (c : tie.In-loop Inv-loop μ-loop) → let s = c .before .before .before in
-    getD (s .args .places .now) (s .args .at + c .before .loop .j) 0 < 24
-place-small c = c .before .before .before .pre .4 _ (omega arith)
+-- the index that a turn finds
+index-small : (c : tie.In-loop Inv-loop μ-loop) → let s = c .before .before .before in
+    getD (s .args .orders .now) (s .args .at + c .before .loop .j) 0 < 24
+index-small c = c .before .before .before .pre .4 _ (omega arith)
 
 number-fits : (s : tie.Start Inv-loop μ-loop) (k : ℕ) → SFits w16 (getD (s .args .filters .now) k (pos 0))
 number-fits s k = fits-abs (omega (arith, s .pre .5 k))
@@ -49,7 +49,7 @@ loop-again c =
       omega arith,
       fill-call (l .inv .1) (c .before .fill .ensures)
           (λ k h t. toZ-ofZ (number-fits s _)
-          ∙ ap (λ (n : ℕ). getD (s .args .filters .now) (s .args .from + getD (s .args .places .now) (s .args .at + n) 0) (pos 0))
+          ∙ ap (λ (n : ℕ). getD (s .args .filters .now) (s .args .from + getD (s .args .orders .now) (s .args .at + n) 0) (pos 0))
           (row-is (s .args .to) (l .j) k (s .pre .2) t))
           (λ k h. rect-more 128 (s .args .to) 4 0 (l .j) (s .pre .2) (omega arith) k),
     )
@@ -68,12 +68,12 @@ put-filter-spec =
     (λ c. (omega arith, fill-none (λ k. rect-none _ _ _ _ _ k (inr (omega arith)))))
     (λ c. omega arith)
     (λ c. omega arith)
-    (λ c. omega (arith, place-small (c .before)))
+    (λ c. omega (arith, index-small (c .before)))
     (λ c. omega arith)
     (λ c. omega arith)
-    (λ c. omega (arith, place-small (c .before .before)))
-    (λ c. omega (arith, place-small (c .before .before)))
-    (λ c. omega (arith, place-small (c .before .before)))
+    (λ c. omega (arith, index-small (c .before .before)))
+    (λ c. omega (arith, index-small (c .before .before)))
+    (λ c. omega (arith, index-small (c .before .before)))
     (λ c κs. omega (arith, c .before .before .before .before .loop .inv .1 .len))
     (λ c. omega arith)
     (λ c. omega arith)

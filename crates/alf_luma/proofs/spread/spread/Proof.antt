@@ -12,16 +12,16 @@ use Rattle.alf_lists.specs.Regions.{inRect}
 use Rattle.alf_lists.specs.Filled.{Filled}
 use Rattle.alf_lists.proofs.Painted.{fill-none, fill-call}
 use Rattle.alf_lists.proofs.Regions.{rect-none, rect-beside, rect-facts}
-use Rattle.alf_luma.specs.Filters.{classFrom, spreadFrom}
+use Rattle.alf_luma.specs.SpreadFilters.{classFrom, spreadFrom}
 use Rattle.alf_luma.proofs.spread.spread.Statement.{statement}
 use Rattle.alf_luma.proofs.spread.spread.Tie as tie
 
 abbrev Inv-loop : tie.InvT-loop
-Inv-loop filters places map at count taps₀ b₀ taps b =
-    (b ≤ count) × Filled (pos 0) taps₀ (inRect 128 0 (4 * b) 0 24) (spreadFrom filters places map at) taps
+Inv-loop filters orders map at count taps₀ b₀ taps b =
+    (b ≤ count) × Filled (pos 0) taps₀ (inRect 128 0 (4 * b) 0 24) (spreadFrom filters orders map at) taps
 
 abbrev μ-loop : tie.MeasureT-loop
-μ-loop filters places map at count taps₀ b₀ taps b = count - b
+μ-loop filters orders map at count taps₀ b₀ taps b = count - b
 
 -- the columns that a turn fills belong to block b
 block-is : (b k : ℕ) → inRect 128 (4 * b) (4 * b + 4) 0 24 k ≡ true → b ≡ k % 128 / 4
@@ -43,7 +43,7 @@ loop-again c =
     let next : 4 * l .b + 4 ≡ 4 * (l .b + 1) = omega arith in (
       omega arith,
       fill-call (l .inv .1) (c .before .put-class .ensures)
-          (λ k h t. ap (λ (n : ℕ). classFrom (a .filters .now) (a .places .now) (getD (a .map .now) (a .at + n) 0) k) (block-is (l .b) k t))
+          (λ k h t. ap (λ (n : ℕ). classFrom (a .filters .now) (a .orders .now) (getD (a .map .now) (a .at + n) 0) k) (block-is (l .b) k t))
           (λ k h. rw (← next) (rect-beside 128 0 (4 * l .b) (4 * l .b + 4) 0 24 (omega arith) (omega arith) k)),
     )
 

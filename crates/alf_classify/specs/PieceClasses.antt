@@ -1,6 +1,4 @@
 -- What the functions of a piece are given, and what its copy says of its blocks. Assumes nothing.
-use mathlib.Core.Path.{_≡_}
-use mathlib.Core.Bool.{true}
 use mathlib.Core.List.{List, []}
 use Prim.Native.Nat.{ℕ, _+_, _-_, _*_, _/_, _%_, _≤_}
 use Rattle.alf_spec.specs.declared.Picture.{Picture}
@@ -9,23 +7,19 @@ use Rattle.alf_spec.specs.declared.WindowRows.{WindowRows}
 use Rattle.alf_spec.specs.Geometry.{lineRule, axisOf}
 use Rattle.alf_spec.specs.Classes.{windowRows, classOf}
 use Rattle.alf_spec.specs.Process.{classNumber}
-use Rattle.alf_spec.specs.Faults.{pictureSizeValid, ctbSizeValid, bitDepthValid}
-use Rattle.alf_math.specs.Grids.{GridOf}
+use Rattle.alf_math.specs.Grids.{AcceptedPicture}
 use Rattle.alf_pieces.specs.declared.pieces.Piece.{Piece}
 use Rattle.alf_pieces.specs.Copies.{extent, pitch, area}
 use Rattle.alf_classify.specs.Windows.{copyWindow}
 
 -- an accepted picture and its grid, and lists of these lengths: the copy of a piece and its differences
-pub record Rooms (p : Picture) (g : Grid) (copy differences : ℕ) : Type 0 where
-  pub grid : GridOf p g
-  pub sizes : pictureSizeValid p ≡ true
-  pub ctbSize : ctbSizeValid p ≡ true
-  pub depth : bitDepthValid p ≡ true
+pub record ClassRooms (p : Picture) (g : Grid) (copy differences : ℕ) : Type 0 where
+  pub picture : AcceptedPicture p g
   pub copyRoom : area ≤ copy
   pub differenceRoom : 4 * area ≤ differences
 
 -- a map of so many entries, whose rows have mapColumns blocks, has room for the blocks of a piece, the first of them at column `left` and
--- row `top`. The bounds of 1024 blocks, which every picture keeps, let places be added and multiplied.
+-- row `top`. The bounds of 1024 blocks, which every picture keeps, let indices be added and multiplied.
 pub record MapRoom (columns rows : Piece) (mapColumns left top map : ℕ) : Type 0 where
   pub narrow : mapColumns ≤ 1024
   pub short : top + extent rows / 4 ≤ 1024
