@@ -45,19 +45,23 @@ total-fits s =
 
 tap-requires : tie.Need-tap-requires
 tap-requires c κs =
-    let s = c .before .before .before .before .before in
+    let s : tie.Start = search needs in
     simp (toZ-ofZ, coeff-fits s, clip-fits s) (s .pre .1, coeff-range s, clip-range s, s .pre .4, s .pre .5)
 
-valued : (c : tie.After-tap) → toZ w32 (ofZ w32 (c .tap .result)) ≡ added (c .before .before .before .before .before .before)
+-- what the function is given, from where the tap is known
+abbrev start : tie.After-tap → tie.Start
+start c = search needs
+
+valued : (c : tie.After-tap) → toZ w32 (ofZ w32 (c .tap .result)) ≡ added (start c)
 valued c =
-    let s = c .before .before .before .before .before .before in
+    let s = start c in
     returned w32 (c .tap .ok) (simp (toZ-ofZ, coeff-fits s, clip-fits s) at (c .tap .ensures))
 
 add-result : tie.Need-add-result
-add-result c = let s = c .before .before .before .before .before .before in simp (toZ-ofZ, s .fits .sum, valued c) (total-fits s)
+add-result c = let s = start c in simp (toZ-ofZ, s .fits .sum, valued c) (total-fits s)
 
 returns : tie.Need-returns
-returns c = let s = c .before .before .before .before .before .before in simp (toZ-ofZ, s .fits .sum, valued c, total-fits s)
+returns c = let s = start c in simp (toZ-ofZ, s .fits .sum, valued c, total-fits s)
 
 pub add-tap-spec : {M : Type 1} → statement M
 add-tap-spec =

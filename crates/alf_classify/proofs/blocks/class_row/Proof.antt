@@ -14,14 +14,18 @@ use Rattle.alf_classify.proofs.ColumnSums.{sums-of-block}
 use Rattle.alf_classify.proofs.blocks.class_row.Statement.{statement}
 use Rattle.alf_classify.proofs.blocks.class_row.Tie as tie
 
+-- what the function is given, from the sums of columns in the first direction
+abbrev start : tie.After-column-sums → tie.Start
+start c = search needs
+
 returns : tie.Need-returns
 returns c =
     let run = c .before .before in
-    let fourth = run .before .before .before .before .before .before .before in
+    let fourth : tie.After-column-sums4 = search needs in
     let third = fourth .before .before .before in
     let second = third .before .before .before in
     let first = second .before .before .before in
-    let s = first .before .before .before .before .before in
+    let s = start first in
     let a = s .args in
     let v = paint-of (first .column-sums .ensures) in
     let h = paint-of (second .column-sums2 .ensures) in
@@ -53,40 +57,40 @@ class-row-spec =
     (λ c. search needs)
     (λ c. refl)
     (λ c κs.
-    let p = c .before .before .before .before .pre in
+    let s : tie.Start = search needs in
+    let p = s .pre in
     let f = row-fits _ _ _ _ (p .0) (p .8) in
     (p .2, p .3, p .1, f .0, f .1, p .9 .0))
     (λ c. search needs)
     (λ c. refl)
     (λ c κs.
-    let p = c .before .before .before .before .before .before .before .pre in
+    let p = start (search needs) .pre in
     let f = row-fits _ _ _ _ (p .0) (p .8) in
     (p .2, p .3, p .1, f .0, f .2, p .9 .1))
     (λ c. search needs)
     (λ c. search needs)
     (λ c. refl)
     (λ c κs.
-    let p = c .before .before .before .before .before .before .before .before .before .before .pre in
+    let p = start (search needs) .pre in
     let f = row-fits _ _ _ _ (p .0) (p .8) in
     (p .2, p .3, p .1, f .0, f .3, p .9 .2))
     (λ c. search needs)
     (λ c. search needs)
     (λ c. refl)
     (λ c κs.
-    let p = c .before .before .before .before .before .before .before .before .before .before .before .before .before .pre in
+    let p = start (search needs) .pre in
     let f = row-fits _ _ _ _ (p .0) (p .8) in
     (p .2, p .3, p .1, f .0, p .8, p .9 .3))
-    (λ c. sym (paint-of (c .before .before .before .before .before .before .before .before .before .before .before .column-sums
-    .ensures) .len))
-    (λ c. sym (paint-of (c .before .before .before .before .before .before .before .before .before .column-sums2 .ensures) .len))
-    (λ c. sym (paint-of (c .before .before .before .before .before .before .before .column-sums3 .ensures) .len))
-    (λ c. sym (paint-of (c .before .before .before .before .before .column-sums4 .ensures) .len))
+    (λ c. let first : tie.After-column-sums = search needs in sym (paint-of (first .column-sums .ensures) .len))
+    (λ c. let second : tie.After-column-sums2 = search needs in sym (paint-of (second .column-sums2 .ensures) .len))
+    (λ c. let third : tie.After-column-sums3 = search needs in sym (paint-of (third .column-sums3 .ensures) .len))
+    (λ c. let fourth : tie.After-column-sums4 = search needs in sym (paint-of (fourth .column-sums4 .ensures) .len))
     (λ c κs.
-    let fourth = c .before .before .before .before .before .before in
+    let fourth : tie.After-column-sums4 = search needs in
     let third = fourth .before .before .before in
     let second = third .before .before .before in
     let first = second .before .before .before in
-    let p = first .before .before .before .before .before .pre in (
+    let p = start first .pre in (
       in-sums _ _ (p .0) (paint-of (first .column-sums .ensures) .len),
       in-sums _ _ (p .0) (paint-of (second .column-sums2 .ensures) .len),
       in-sums _ _ (p .0) (paint-of (third .column-sums3 .ensures) .len),

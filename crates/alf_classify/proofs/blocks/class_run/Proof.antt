@@ -21,7 +21,8 @@ abbrev μ-loop : tie.MeasureT-loop
 
 loop-again : tie.Need-loop-again Inv-loop μ-loop
 loop-again c =
-    let a = c .before .before .before .before .before .before .before .before .args in
+    let s : tie.Start Inv-loop μ-loop = search needs in
+    let a = s .args in
     let l = c .before .before .loop in
     let here : 4 * l .m ≡ 4 * (a .at + l .m - a .at) = omega arith in (
       omega arith,

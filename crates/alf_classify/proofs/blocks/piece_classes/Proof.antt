@@ -33,12 +33,12 @@ abbrev μ-loop : tie.MeasureT-loop
 sizes : (c : tie.After-extent2 Inv-loop μ-loop) → let m = c .before .extent .result in let n = c .extent2 .result in
     (2 * (m + 6 + 1) ≤ (n + 6) * (m + 6)) × ((n + 6) * (m + 6) ≤ area)
 sizes c =
-    let s = c .before .before .before .before .before in
+    let s : tie.Start Inv-loop μ-loop = search needs in
     rw (c .before .extent .ensures, c .extent2 .ensures) (copy-bounds (s .pre .1) (s .pre .2))
 
 all-differences-requires : tie.Need-all-differences-requires Inv-loop μ-loop
 all-differences-requires c κs =
-    let s = c .before .before .before .before .before .before in
+    let s : tie.Start Inv-loop μ-loop = search needs in
     let z = sizes (c .before) in (
       omega arith,
       z .0,
@@ -50,10 +50,11 @@ all-differences-requires c κs =
 
 loop-holds : tie.Need-loop-holds Inv-loop μ-loop
 loop-holds c =
-    let second = c .before .before .before .before .before .before in
+    let differ : tie.After-all-differences Inv-loop μ-loop = search needs in
+    let second : tie.After-extent2 Inv-loop μ-loop = search needs in
     let first = second .before in
-    let s = first .before .before .before .before in
-    let done = c .before .before .before .before .all-differences .ensures in
+    let s : tie.Start Inv-loop μ-loop = search needs in
+    let done = differ .all-differences .ensures in
     let b = blocks (s .pre .1) in (
       omega arith,
       omega (arith, first .extent .ensures, s .pre .4 .across),
@@ -69,9 +70,13 @@ loop-holds c =
       λ columns e. paint-none (λ k. rect-none _ _ _ _ _ k (inr (omega arith))),
     )
 
+-- where the copy's columns were counted, from a turn of the loop
+abbrev counted : tie.In-loop Inv-loop μ-loop → tie.After-extent Inv-loop μ-loop
+counted c = search needs
+
 -- where the function begins, from a turn of its loop
 abbrev begin : tie.In-loop Inv-loop μ-loop → tie.Start Inv-loop μ-loop
-begin c = c .before .before .before .before .before .before .before .before .before .before .before .before .before
+begin c = let first = counted c in search needs
 
 -- where the row lies, in the piece and in the picture
 row-inside : (c : tie.In-loop Inv-loop μ-loop) → let row = c .before .loop .row in let rows = begin c .args .rows in
@@ -100,11 +105,11 @@ window-index-requires c κs =
 
 class-row-requires : tie.Need-class-row-requires Inv-loop μ-loop
 class-row-requires c κs =
-    let turn = c .before .before .before .before .before .before in
+    let window : tie.After-row-window Inv-loop μ-loop = search needs in
+    let turn = window .before .before in
     let s = begin turn in
     let l = turn .before .loop in
     let P = l .inv .2 in
-    let window = c .before .before .before .before in
     let w = window-bounds window in
     let depth = depth-bounds _ (s .pre .0 .picture .depth) in
     let r = row-ready (s .args .picture) (s .args .grid .ctb) _ _ _ P (l .row) (row-inside turn .0) _ (window .row-window .ensures)
@@ -113,13 +118,15 @@ class-row-requires c κs =
 
 loop-again : tie.Need-loop-again Inv-loop μ-loop
 loop-again c =
-    let turn = c .before .before .before .before .before .before .before .before .before in
+    let placed : tie.After-map-index Inv-loop μ-loop = search needs in
+    let from = placed .before in
+    let window = from .before in
+    let turn = window .before .before in
     let l = turn .before .loop in
     let s = begin turn in
     let P = l .inv .2 in
-    let window = c .before .before .before .before .before .before .before in
-    let index = c .before .before .before .before .before .before .window-index .ensures in
-    let at = c .before .before .before .before .before .map-index .ensures in
+    let index = from .window-index .ensures in
+    let at = placed .map-index .ensures in
     let row = c .before .before .class-row .ensures in
     let next : s .args .top + (l .row + 1) ≡ s .args .top + l .row + 1 = omega arith in (
       omega (arith, row-inside turn .0),
@@ -136,9 +143,10 @@ loop-again c =
 returns : tie.Need-returns Inv-loop μ-loop
 returns c =
     let l = c .before .loop in
-    let first = c .before .before .before .before .before .before .before .before .before in
+    let first : tie.After-extent Inv-loop μ-loop = search needs in
     let width = first .extent .ensures in
-    let columns = first .before .before .before .before .args .columns in
+    let s : tie.Start Inv-loop μ-loop = search needs in
+    let columns = s .args .columns in
     rw (width, le-antisymm (l .inv .0) (c .loop-test .left)) at (paint-is (l .inv .4 columns (rw width)))
 
 pub piece-classes-spec : {M : Type 1} → statement M
@@ -148,9 +156,9 @@ piece-classes-spec =
     Inv-loop
     μ-loop
     (λ c κs. omega (arith, c .before .before .before .pre .1 .numbers .filled))
-    (λ c. search (needs, c .extent .ensures, blocks (c .before .before .before .before .pre .1) .few))
-    (λ c κs. omega (arith, c .before .before .before .before .pre .2 .numbers .filled))
-    (λ c. search (needs, c .extent2 .ensures, blocks (c .before .before .before .before .before .pre .2) .few))
+    (λ c. let s : tie.Start Inv-loop μ-loop = search needs in search (needs, c .extent .ensures, blocks (s .pre .1) .few))
+    (λ c κs. let s : tie.Start Inv-loop μ-loop = search needs in omega (arith, s .pre .2 .numbers .filled))
+    (λ c. let s : tie.Start Inv-loop μ-loop = search needs in search (needs, c .extent2 .ensures, blocks (s .pre .2) .few))
     (λ c. search (needs, sizes c))
     all-differences-requires
     (λ c. search needs)
@@ -165,8 +173,8 @@ piece-classes-spec =
     let room = begin turn .pre .4 in
     omega (arith, room .narrow, room .across, room .short, row-inside turn))
     class-row-requires
-    (λ c. search (needs, row-inside (c .before .before .before .before .before .before .before .before .before)))
-    (λ c. omega (arith, c .before .before .before .before .before .before .before .before .before .loop-test .taken))
+    (λ c. let turn : tie.In-loop Inv-loop μ-loop = search needs in search (needs, row-inside turn))
+    (λ c. let turn : tie.In-loop Inv-loop μ-loop = search needs in omega (arith, turn .loop-test .taken))
     loop-again
     (λ c. search needs)
     (λ c. search needs)

@@ -8,10 +8,10 @@ use Rattle.alf_classify.proofs.differences.all_differences.Tie as tie
 returns : tie.Need-returns
 returns c =
     let fourth = c .before .before in
-    let third = fourth .before .before .before .before in
-    let second = third .before .before .before .before in
-    let first = second .before .before .before .before in
-    let s = first .before .before .before .before in
+    let third : tie.After-second-differences3 = search needs in
+    let second : tie.After-second-differences2 = search needs in
+    let first : tie.After-second-differences = search needs in
+    let s : tie.Start = search needs in
     let v = paint-of (first .second-differences .ensures) in
     let h = paint-of (second .second-differences2 .ensures) in
     let d0 = paint-of (third .second-differences3 .ensures) in

@@ -20,13 +20,14 @@ abbrev μ-loop : tie.MeasureT-loop
 
 difference-requires : tie.Need-difference-requires Inv-loop μ-loop
 difference-requires c κs =
-    let s = c .before .before .before .before in
+    let s : tie.Start Inv-loop μ-loop = search needs in
     let sample = s .pre .4 in
     (omega arith, omega arith, sample _ (omega arith), sample _ (omega arith), sample _ (omega arith))
 
 loop-again : tie.Need-loop-again Inv-loop μ-loop
 loop-again c =
-    let a = c .before .before .before .before .before .args in
+    let s : tie.Start Inv-loop μ-loop = search needs in
+    let a = s .args in
     let l = c .before .before .loop in
     let here : a .margin + l .x ≡ a .at + a .margin + l .x - a .at = omega arith in (
       omega arith,

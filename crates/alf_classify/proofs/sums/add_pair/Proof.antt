@@ -21,15 +21,15 @@ abbrev μ-loop : tie.MeasureT-loop
 
 -- what is read stands as it was
 unwritten : (c : tie.After-pair Inv-loop μ-loop)
-    → let l = c .before .before .before .loop in
-    getD (l .sums) (l .x) 0 ≡ getD (c .before .before .before .before .before .before .args .sums .now) (l .x) 0
+    → let l = c .before .before .before .loop in let s : tie.Start Inv-loop μ-loop = search needs in
+    getD (l .sums) (l .x) 0 ≡ getD (s .args .sums .now) (l .x) 0
 unwritten c =
     let l = c .before .before .before .loop in
     paint-out (l .inv .1) (l .x) (omega arith) (never _ (λ t. let f = run-facts 0 (l .x) (l .x) t in omega arith))
 
 add-sums : tie.Need-add-sums Inv-loop μ-loop
 add-sums c =
-    let s = c .before .before .before .before .before .before in
+    let s : tie.Start Inv-loop μ-loop = search needs in
     rw (unwritten c) (search (needs, s .pre .3 (c .before .before .before .loop .x) (omega arith)))
 
 loop-again : tie.Need-loop-again Inv-loop μ-loop
@@ -50,7 +50,7 @@ add-pair-spec =
     (λ c. omega arith)
     (λ c. omega arith)
     (λ c. omega arith)
-    (λ c κs. let s = c .before .before .before .before .before in (omega arith, λ k l h. s .pre .2 k (omega arith) (omega arith)))
+    (λ c κs. let s : tie.Start Inv-loop μ-loop = search needs in (omega arith, λ k l h. s .pre .2 k (omega arith) (omega arith)))
     add-sums
     (λ c. omega arith)
     (λ c. omega arith)

@@ -26,9 +26,10 @@ sum-three-pairs-requires c κs =
 
 add-pair-requires : tie.Need-add-pair-requires
 add-pair-requires c κs =
-    let s = c .before .before .before .before .before .before .before .before in
+    let s : tie.Start = search needs in
+    let three : tie.After-sum-three-pairs = search needs in
     let r = four-reach s (c .before .if1 .taken) in
-    let P = paint-of (c .before .before .before .before .sum-three-pairs .ensures) in (
+    let P = paint-of (three .sum-three-pairs .ensures) in (
       omega (arith, P .len),
       omega (arith, s .pre .4, r),
       λ k l h. s .pre .5 k (omega arith) (omega (arith, h, r)),
@@ -39,15 +40,16 @@ add-pair-requires c κs =
 
 returns : tie.Need-returns
 returns c =
-    let three = c .before .before .before .before .before .before .before in
-    let s = three .before .before .before .before in
-    rw (c .before .before .before .before .if1 .taken)
+    let three : tie.After-sum-three-pairs = search needs in
+    let s : tie.Start = search needs in
+    let four : tie.Then1 = search needs in
+    rw (four .if1 .taken)
     (paint-is (four-pairs _ _ _ (s .args .n) (s .pre .3) (paint-of (three .sum-three-pairs .ensures))
     (paint-of (c .before .before .add-pair .ensures))))
 
 returns-2 : tie.Need-returns-2
 returns-2 c =
-    let s = c .before .before .before .before .before .before .before in
+    let s : tie.Start = search needs in
     let left = c .if1 .left in
     let e : s .args .pairs ≡ 3 = omega (arith, left, s .pre .0, s .pre .1) in
     rw e (c .before .before .before .sum-three-pairs .ensures)
@@ -57,8 +59,8 @@ column-sums-spec =
     tie.close
     (tie.spec
     sum-three-pairs-requires
-    (λ c. let s = c .before .before .before .before .before .before .before in search (needs, s .pre .4, four-reach s (c .if1 .taken)))
-    (λ c. let s = c .before .before .before .before .before .before .before in search (needs, s .pre .4, four-reach s (c .if1 .taken)))
+    (λ c. let s : tie.Start = search needs in search (needs, s .pre .4, four-reach s (c .if1 .taken)))
+    (λ c. let s : tie.Start = search needs in search (needs, s .pre .4, four-reach s (c .if1 .taken)))
     add-pair-requires
     (λ c. search needs)
     returns

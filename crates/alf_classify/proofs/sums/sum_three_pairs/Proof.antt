@@ -24,7 +24,7 @@ sum-three-pairs-spec =
     μ-loop
     (λ c. (omega arith, paint-none (run-none _)))
     (λ c. omega arith)
-    (λ c κs. let s = c .before .before .before .before in (omega arith, λ k l h. s .pre .2 k (omega arith) (omega arith)))
+    (λ c κs. let s : tie.Start Inv-loop μ-loop = search needs in (omega arith, λ k l h. s .pre .2 k (omega arith) (omega arith)))
     (λ c. omega arith)
     (λ c. omega arith)
     (λ c. omega arith)

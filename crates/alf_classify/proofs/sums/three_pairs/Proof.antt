@@ -21,6 +21,7 @@ three-pairs-spec =
     (λ c κs. let s = c .before .before .before in (omega arith, λ k l h. s .pre .1 k (omega arith) (omega arith)))
     (λ c. search needs)
     (λ c.
-    let a = c .before .before .before .before .args in
+    let s : tie.Start = search needs in
+    let a = s .args in
     (λ t. c .before .before .pair .ensures .0 t + c .before .pair2 .ensures .0 t + c .pair3 .ensures .0 t)
     ∙ sym (three-pairs (a .d .now) (a .pitch) (a .k))))

@@ -21,13 +21,14 @@ abbrev μ-loop : tie.MeasureT-loop
 
 luma-at-requires : tie.Need-luma-at-requires Inv-loop μ-loop
 luma-at-requires c κs =
-    let s = c .before .before .before .before in
+    let s : tie.Start Inv-loop μ-loop = search needs in
     (fewer (s .pre .0) (omega (arith, c .loop-test .taken)), s .pre .1, omega arith, s .pre .3, s .pre .4)
 
 loop-again : tie.Need-loop-again Inv-loop μ-loop
 loop-again c =
     let l = c .before .before .loop in
-    let s = c .before .before .before .before .before .args in
+    let begin : tie.Start Inv-loop μ-loop = search needs in
+    let s = begin .args in
     let column : l .x ≡ s .from + l .x - s .from = omega arith in (
       omega arith,
       paint-set _ _ (l .inv .1) (omega arith)

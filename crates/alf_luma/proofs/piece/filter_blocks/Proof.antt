@@ -24,7 +24,7 @@ use Rattle.alf_luma.proofs.piece.filter_blocks.Tie as tie
 
 -- what the function is given
 abbrev start : tie.After-extent → tie.Start
-start c = c .before .before .before .before .before
+start c = search needs
 
 across : (c : tie.After-extent) → let a = start c .args in Blocks (a .picture .width) (a .columns)
 across c = blocks (start c .pre .1 .across)
@@ -53,7 +53,7 @@ spread-requires c κs =
 
 -- the filters of the row's blocks, spread
 abbrev found : tie.After-spread → tie.After-extent
-found c = c .before .before .before .before
+found c = search needs
 
 abbrev SpreadRow : tie.After-spread → List ℤ → Type 0
 SpreadRow c taps =
@@ -109,7 +109,7 @@ filter-four-requires c κs =
 
 returns : tie.Need-returns
 returns c =
-    let after = c .before .before .before .before .before .before in
+    let after : tie.After-spread = search needs in
     let f = found after in
     let a = start f .args in
     let filled = rw (f .extent .ensures) at (after .spread .ensures) in

@@ -27,7 +27,7 @@ abbrev μ-loop : tie.MeasureT-loop
 
 -- what the function is given
 abbrev start : tie.After-extent Inv-loop μ-loop → tie.Start Inv-loop μ-loop
-start c = c .before .before .before .before .before
+start c = search needs
 
 filter-blocks-requires : tie.Need-filter-blocks-requires Inv-loop μ-loop
 filter-blocks-requires c κs =
@@ -50,7 +50,7 @@ filter-blocks-requires c κs =
 
 loop-again : tie.Need-loop-again Inv-loop μ-loop
 loop-again c =
-    let turn = c .before .before .before .before .before .before in
+    let turn : tie.In-loop Inv-loop μ-loop = search needs in
     let l = turn .before .loop in
     let s = start (turn .before .before) in
     let done = c .before .before .before .filter-blocks .ensures in
@@ -76,11 +76,11 @@ filter-copy-spec =
     (tie.spec
     Inv-loop
     μ-loop
-    (λ c κs. omega (arith, c .before .before .before .before .pre .1 .down .numbers .filled))
+    (λ c κs. let s : tie.Start Inv-loop μ-loop = search needs in omega (arith, s .pre .1 .down .numbers .filled))
     (λ c. (omega arith, start c .pre .0 .spread, refl, paint-none (λ k. rect-none _ _ _ _ _ k (inr (omega arith)))))
     filter-blocks-requires
     (λ c. search needs)
-    (λ c. omega (arith, c .before .before .before .before .before .before .loop-test .taken))
+    (λ c. let turn : tie.In-loop Inv-loop μ-loop = search needs in omega (arith, turn .loop-test .taken))
     loop-again
     (λ c. search needs)
     (λ c. search needs)

@@ -25,7 +25,7 @@ abbrev μ-loop : tie.MeasureT-loop
 
 -- what the function is given
 abbrev start : tie.In-loop Inv-loop μ-loop → tie.Start Inv-loop μ-loop
-start c = c .before .before .before .before .before
+start c = search needs
 
 -- the row that a turn filters lies in the plane
 in-plane : (c : tie.In-loop Inv-loop μ-loop) → let a = start c .args in
@@ -58,7 +58,7 @@ filter-row-requires c κs =
 
 loop-again : tie.Need-loop-again Inv-loop μ-loop
 loop-again c =
-    let turn = c .before .before .before .before in
+    let turn : tie.In-loop Inv-loop μ-loop = search needs in
     let s = start turn in
     let a = s .args in
     let l = turn .before .loop in
@@ -91,7 +91,7 @@ filter-four-spec =
     (λ c. omega arith)
     filter-row-requires
     (λ c. omega arith)
-    (λ c. omega (arith, c .before .before .before .before .loop-test .taken))
+    (λ c. let turn : tie.In-loop Inv-loop μ-loop = search needs in omega (arith, turn .loop-test .taken))
     loop-again
     (λ c. search needs)
     returns)

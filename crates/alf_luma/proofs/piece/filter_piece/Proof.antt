@@ -31,7 +31,7 @@ room c = copy-fits (start c .pre .1 .numbers) (start c .pre .2 .numbers) (start 
 
 piece-classes-requires : tie.Need-piece-classes-requires
 piece-classes-requires c κs =
-    let f = c .before .before .before .before .before in
+    let f : tie.After-copy-piece = search needs in
     let copies = f .copy-piece .ensures in
     let pre = start f .pre in
     let columns = blocks (pre .1) in
@@ -54,11 +54,11 @@ piece-classes-requires c κs =
 
 -- the copy, from where the piece is classified
 abbrev copied : tie.After-piece-classes → tie.After-copy-piece
-copied c = c .before .before .before .before .before .before
+copied c = search needs
 
 filter-copy-requires : tie.Need-filter-copy-requires
 filter-copy-requires c κs =
-    let done = c .before .before .before .before .before .before .before in
+    let done : tie.After-piece-classes = search needs in
     let f = copied done in
     let copies = f .copy-piece .ensures in
     let pre = start f .pre in (
@@ -76,7 +76,7 @@ filter-copy-requires c κs =
 returns : tie.Need-returns
 returns c =
     let done = c .before .before .before .filter-copy .ensures in
-    let f = copied (c .before .before .before .before .before .before .before .before .before .before .before) in
+    let f = copied (search needs) in
     let s = start f in (
       (λ i ctb of same own across down.
           paint-is (paint-same (paint-of (done .0)) (λ k h. refl)

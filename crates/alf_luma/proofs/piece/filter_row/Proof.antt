@@ -14,7 +14,7 @@ use Rattle.alf_luma.proofs.piece.filter_row.Tie as tie
 
 -- what the function is given
 abbrev start : tie.After-luma-rows → tie.Start
-start c = c .before .before .before .before .before .before
+start c = search needs
 
 -- the offsets are those of Table 45 at row y
 rows-are : (c : tie.After-luma-rows) → let a = start c .args in c .luma-rows .result ≡ lumaRowsAtRow (a .picture .height) (a .grid .ctb) (a .y)
@@ -41,8 +41,9 @@ luma-row-requires c κs =
 
 returns : tie.Need-returns
 returns c =
-    let f = c .before .before .before .before .before .before in
-    rw (c .before .before .before .before .before .starts .ensures, rows-are f) at (c .before .before .luma-row .ensures)
+    let f : tie.After-luma-rows = search needs in
+    let rows : tie.After-starts = search needs in
+    rw (rows .starts .ensures, rows-are f) at (c .before .before .luma-row .ensures)
 
 pub filter-row-spec : {M : Type 1} → statement M
 filter-row-spec =
@@ -51,7 +52,7 @@ filter-row-spec =
     (λ c κs. search needs)
     (λ c. search needs)
     (λ c.
-    let s = c .before .before .before .before .before in
+    let s : tie.Start = search needs in
     let positive : 0 < s .args .grid .ctb = omega (arith, s .pre .0 .grid .ctbLow) in
     omega (arith, mod-lt (s .args .y) positive))
     (λ c κs. search needs)

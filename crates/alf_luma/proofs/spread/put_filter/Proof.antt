@@ -43,7 +43,7 @@ row-is to j k fits t =
 
 loop-again : tie.Need-loop-again Inv-loop μ-loop
 loop-again c =
-    let turn = c .before .before .before .before .before in
+    let turn : tie.In-loop Inv-loop μ-loop = search needs in
     let l = turn .before .loop in
     let s = turn .before .before .before in (
       omega arith,
@@ -74,7 +74,7 @@ put-filter-spec =
     (λ c. omega (arith, index-small (c .before .before)))
     (λ c. omega (arith, index-small (c .before .before)))
     (λ c. omega (arith, index-small (c .before .before)))
-    (λ c κs. omega (arith, c .before .before .before .before .loop .inv .1 .len))
+    (λ c κs. let turn : tie.In-loop Inv-loop μ-loop = search needs in omega (arith, turn .before .loop .inv .1 .len))
     (λ c. omega arith)
     (λ c. omega arith)
     loop-again

@@ -31,15 +31,16 @@ put-class-requires : tie.Need-put-class-requires Inv-loop μ-loop
 put-class-requires c κs =
     let turn = c .before .before in
     let l = turn .before .loop in
-    let s = turn .before .before .before .before in
+    let s : tie.Start Inv-loop μ-loop = search needs in
     let number = s .pre .3 (l .b) (turn .loop-test .taken) in
     (s .pre .0, s .pre .1, number .0, number .1, omega (arith, s .pre .4), omega (arith, s .pre .5, l .inv .1 .len))
 
 loop-again : tie.Need-loop-again Inv-loop μ-loop
 loop-again c =
-    let turn = c .before .before .before .before in
+    let turn : tie.In-loop Inv-loop μ-loop = search needs in
     let l = turn .before .loop in
-    let a = turn .before .before .before .before .args in
+    let s : tie.Start Inv-loop μ-loop = search needs in
+    let a = s .args in
     let next : 4 * l .b + 4 ≡ 4 * (l .b + 1) = omega arith in (
       omega arith,
       fill-call (l .inv .1) (c .before .put-class .ensures)
