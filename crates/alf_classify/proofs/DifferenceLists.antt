@@ -66,7 +66,7 @@ module _ (copy : List ℕ) (pitch n : ℕ) (samples : (k : ℕ) → k < n → ge
   difference-small step k h inside =
       omega (arith, samples k (omega arith), samples (k - step) (omega arith), samples (k + step) (omega arith))
 
-  -- in one direction, whose differences stand from index `at` of the list on
+  -- the entries of one direction are small; its differences stand from index `at` of the list on
   small-run : (d : List ℕ) (step at from m reach : ℕ)
       → ((k : ℕ) → pitch + 1 ≤ k → k + (pitch + 1) < n → getD d (at + k) 0 ≡ differenceAt copy step k)
       → step ≤ pitch + 1 → pitch + 1 ≤ from → from + m + reach + (pitch + 1) ≤ n → SmallRun d (at + from) (at + from + m + reach)

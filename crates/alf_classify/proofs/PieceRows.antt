@@ -87,7 +87,7 @@ module _ (p : Picture) (ctb : ℕ) (rows : Piece) (copy d : List ℕ) {pitch cou
         let h = row-fits (4 * row) (window .first) (window .count / 2) pitch count (b .0, b .1, b .2, P .pitchIs) in
         rw f (h .0, le-trans (h .1) rows-inside)
 
-    -- what the row's function asks of places
+    -- what the row's function asks of its map and of the differences
     pub row-ready : {map : ℕ} → (top + extent rows / 4) * mapColumns ≤ map → (1 ≤ pitch) × (at + count ≤ map)
         × (3 * area + from + (4 * count + 3) + (window .count / 2 * (2 * pitch) + 1 - pitch) ≤ length d)
         × SmallRuns d from (4 * count + 3) (window .count / 2 * (2 * pitch) + 1 - pitch)
@@ -100,7 +100,7 @@ module _ (p : Picture) (ctb : ℕ) (rows : Piece) (copy d : List ℕ) {pitch cou
           small-runs copy pitch _ (P .samples) d from (4 * count + 3) _ (P .differences) (omega (arith, P .pitchIs)) (h .0) (h .1),
         )
 
-    -- the number of the block m places from the row's first
+    -- the class of block m of the row
     block-number : (m : ℕ) → m < count
         → classOf (p .«bit_depth») window (copyWindow copy pitch (4 * m) (4 * row))
         ≡ classOfSums (p .«bit_depth») (window .factor) (blockSums d pitch (window .count / 2) (from + 4 * m))
@@ -111,7 +111,7 @@ module _ (p : Picture) (ctb : ℕ) (rows : Piece) (copy d : List ℕ) {pitch cou
         rw (← index, w) (window-sums copy pitch (4 * m) (4 * row) d _ (P .differences) (omega (arith, P .pitchIs)) rows-inside _ ctb _) in
         rw sums
 
-    -- whatever the piece's columns are, if its copy has that pitch
+    -- the class number at index k of the map, whatever the piece's columns are, if its copy has that pitch
     pub row-number : (columns : Piece) → pitchOf columns ≡ pitch → (k : ℕ) → between at count k ≡ true
         → rowClass d pitch window (p .«bit_depth») from at k ≡ copyClassAt p ctb copy columns rows mapColumns left top k
     unfolding copyClassAt

@@ -26,14 +26,14 @@ unfolding windowRows
 rows-either P upper lower whole line ctb y =
     cond-either P (line && eqb y (ctb - 8)) _ _ upper (cond-either P (line && eqb y (ctb - 4)) _ _ lower whole)
 
--- the window's rows, and the pairs of them
+-- how many rows a window has, and where they lie
 abbrev pub RowBounds : WindowRows → Type 0
 RowBounds r = (1 ≤ r .first) × (r .first + 2 * (r .count / 2) ≤ 9) × (3 ≤ r .count / 2) × (r .count / 2 ≤ 4) × (r .factor ≤ 3)
 
 pub row-bounds : (line : Bool) (ctb y : ℕ) → RowBounds (windowRows line ctb y)
 row-bounds line ctb y = rows-either RowBounds (omega arith) (omega arith) (omega arith) line ctb y
 
--- by 2 by 2 cells, of which two samples count
+-- the sum over a window by 2 by 2 cells, of which two samples count
 cells : (ℕ → ℕ → ℕ) → ℕ → ℕ → ℕ
 cells f first pairs = sumBelow 4 (λ i. sumBelow pairs (λ u. f (1 + 2 * i) (first + 2 * u) + f (2 + 2 * i) (first + 2 * u + 1)))
 
@@ -94,7 +94,7 @@ module _ (copy : List ℕ) (pitch s t : ℕ) where
 
   -- ---- the sums
 
-  -- in one direction, whose differences stand from index `at` of the list on
+  -- the sum in one direction, whose differences stand from index `at` of the list on
   sum-of-cells : (d : List ℕ) (f : ℕ → ℕ → ℕ) (at first pairs : ℕ) → (1 ≤ first) × (first + 2 * pairs ≤ 9)
       → ((i j : ℕ) → (1 ≤ i) × (i ≤ 8) × (1 ≤ j) × (j ≤ 8) → f i j ≡ getD d (at + index i j) 0)
       → cells f first pairs ≡ blockSum d pitch pairs (at + index 1 first)
@@ -108,7 +108,7 @@ module _ (copy : List ℕ) (pitch s t : ℕ) where
       (e (1 + 2 * i) (first + 2 * u) (omega arith) ∙ ap (λ (k : ℕ). getD d k 0) even)
       (e (2 + 2 * i) (first + 2 * u + 1) (omega arith) ∙ ap (λ (k : ℕ). getD d k 0) odd)))
 
-  -- in all four, where the window lies in the copy
+  -- the sums in all four directions, where the window lies in the copy
   module _ (d : List ℕ) (n : ℕ) (D : Differences copy pitch n d) (column : s + 10 ≤ pitch) (row : (t + 10) * pitch ≤ n) where
     inside : (i j : ℕ) → (1 ≤ i) × (i ≤ 8) × (1 ≤ j) × (j ≤ 8) → (pitch + 1 ≤ index i j) × (index i j + (pitch + 1) < n)
     inside i j h =

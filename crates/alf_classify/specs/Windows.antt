@@ -19,11 +19,11 @@ copyWindow copy pitch s t = tabulate 100 (λ k. getD copy ((t + k / 10) * pitch 
 
 -- ---- second differences
 
--- of sample k of the copy and the two that lie `step` before and after it
+-- (1472) to (1475): the second difference of sample k of the copy and the two that lie `step` before and after it
 unfoldable pub differenceAt : List ℕ → ℕ → ℕ → ℕ
 differenceAt copy step k = distance (2 * getD copy k 0) (getD copy (k - step) 0 + getD copy (k + step) 0)
 
--- at index k of a list in which that of sample 0 would stand at index `at`
+-- the second difference at index k of a list in which that of sample 0 would stand at index `at`
 abbrev pub differenceFrom : List ℕ → ℕ → ℕ → ℕ → ℕ
 differenceFrom copy step at k = differenceAt copy step (k - at)
 
@@ -40,11 +40,11 @@ pub record Differences (copy : List ℕ) (pitch n : ℕ) (d : List ℕ) : Type 0
 abbrev pub pairAt : List ℕ → ℕ → ℕ → ℕ
 pairAt d pitch k = getD d k 0 + getD d (k + (pitch + 1)) 0
 
--- over so many pairs of rows
+-- the sum of a column over so many pairs of rows
 unfoldable pub columnSum : List ℕ → ℕ → ℕ → ℕ → ℕ
 columnSum d pitch pairs k = sumBelow pairs (λ u. pairAt d pitch (k + u * (2 * pitch)))
 
--- over the window's eight columns
+-- (1476) to (1479): the sum over the window's eight columns
 unfoldable pub blockSum : List ℕ → ℕ → ℕ → ℕ → ℕ
 blockSum d pitch pairs k = sumBelow 4 (λ i. columnSum d pitch pairs (k + 2 * i))
 
@@ -54,7 +54,7 @@ blockSum d pitch pairs k = sumBelow 4 (λ i. columnSum d pitch pairs (k + 2 * i)
 abbrev pub SmallRun : List ℕ → ℕ → ℕ → Type 0
 SmallRun d from to = (k : ℕ) → from ≤ k → k < to → getD d k 0 ≤ 8190
 
--- in each direction, n + reach entries from index `from` on
+-- n + reach entries from index `from` on are so small in each direction
 abbrev pub SmallRuns : List ℕ → ℕ → ℕ → ℕ → Type 0
 SmallRuns d from n reach =
     SmallRun d from (from + n + reach) × SmallRun d (area + from) (area + from + n + reach)
@@ -69,7 +69,7 @@ columnFrom d pitch pairs from x = columnSum d pitch pairs (from + x)
 abbrev pub pairAdded : List ℕ → List ℕ → ℕ → ℕ → ℕ → ℕ
 pairAdded sums d pitch from x = getD sums x 0 + pairAt d pitch (from + x)
 
--- over the columns of a window, whose first stands at index `at` of a list of sums
+-- the sum over the columns of a window, whose first stands at index `at` of a list of sums
 unfoldable pub fourColumns : List ℕ → ℕ → ℕ
 fourColumns sums at = sumBelow 4 (λ i. getD sums (at + 2 * i) 0)
 
@@ -77,7 +77,7 @@ fourColumns sums at = sumBelow 4 (λ i. getD sums (at + 2 * i) 0)
 unfoldable pub columnSums : List ℕ → List ℕ → List ℕ → List ℕ → ℕ → Sums
 columnSums v h d0 d1 at = record { v = fourColumns v at; h = fourColumns h at; d0 = fourColumns d0 at; d1 = fourColumns d1 at }
 
--- the same from the differences
+-- the sums of a block's window, from the differences
 unfoldable pub blockSums : List ℕ → ℕ → ℕ → ℕ → Sums
 blockSums d pitch pairs k = record {
   v = blockSum d pitch pairs k;
@@ -86,10 +86,10 @@ blockSums d pitch pairs k = record {
   d1 = blockSum d pitch pairs (3 * area + k);
 }
 
--- the number at index k of the map, where the first of the columns belongs to the block at index `at`
+-- the class number at index k of the map, from the sums of columns, of which the first belongs to the block at index `at`
 abbrev pub columnClass : List ℕ → List ℕ → List ℕ → List ℕ → ℕ → ℕ → ℕ → ℕ → ℕ
 columnClass v h d0 d1 factor depth at k = classNumber (classOfSums depth factor (columnSums v h d0 d1 (4 * (k - at))))
 
--- the same, where the differences of that block's window begin at index `from`
+-- the class number at index k of the map, from the differences; those of the window of the block at index `at` begin at index `from`
 abbrev pub rowClass : List ℕ → ℕ → WindowRows → ℕ → ℕ → ℕ → ℕ → ℕ
 rowClass d pitch r depth from at k = classNumber (classOfSums depth (r .factor) (blockSums d pitch (r .count / 2) (from + 4 * (k - at))))

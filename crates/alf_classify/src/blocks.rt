@@ -1,4 +1,4 @@
-// The classes of the blocks of a piece.
+// The classes of the blocks of a piece: (1470) to (1479) give the sums of a block's window, (1480) to (1500) its class from them.
 ghost use mathlib.Core.Path.{_≡_};
 ghost use Prim.Native.Nat.{ℕ, _+_, _-_, _*_, _/_, _≤_, _<_};
 ghost use lib.ListN.{length, getD};

@@ -1,4 +1,8 @@
 // The second differences of a piece's copy, in four directions: once for each sample, since the windows of the blocks overlap.
+//   (1472) to (1475)  filt = Abs( 2 * sample − one neighbour − the neighbour opposite it )
+// where filtV takes the neighbours above and below, `pitch` before and after the sample in the copy; filtH those to its left and right, 1
+// before and after; filtD0 those above left and below right, `pitch` + 1 before and after; filtD1 those above right and below left,
+// `pitch` − 1 before and after.
 ghost use mathlib.Core.Path.{_≡_};
 ghost use Prim.Native.Nat.{ℕ, _+_, _-_, _*_, _≤_, _<_};
 ghost use lib.ListN.{length, getD};
@@ -11,7 +15,7 @@ use alf_math::windows::second_difference;
 // A copy has at most 134 by 134 samples.
 pub const AREA: usize = 17956;
 
-// Of sample k of the copy and the two that lie `step` before and after it.
+// The second difference of sample k of the copy and the two samples that lie `step` before and after it.
 fn difference(copy: &[u16], k: usize, step: usize) -> u16
     requires { ⌜ (step ≤ k) × (k + step < length (now copy))
         × (getD (now copy) k 0 < 4096) × (getD (now copy) (k - step) 0 < 4096) × (getD (now copy) (k + step) 0 < 4096) ⌝ }
@@ -20,8 +24,8 @@ fn difference(copy: &[u16], k: usize, step: usize) -> u16
     second_difference(copy[k], copy[k - step], copy[k + step])
 }
 
-// In one direction, of the first n samples but for `margin` of them at each end. One run over all rows: a difference that spans the ends of
-// two rows is never summed.
+// The second differences in one direction, of the first n samples but for `margin` of them at each end. One run over all rows: a difference
+// that spans the ends of two rows is never summed.
 fn second_differences(
     copy: &[u16],
     n: usize,
@@ -44,7 +48,7 @@ fn second_differences(
     }
 }
 
-// In the four directions.
+// The second differences in the four directions, one list of AREA after the other: filtV, filtH, filtD0, filtD1.
 pub(crate) fn all_differences(copy: &[u16], pitch: usize, n: usize, differences: &mut [u16])
     requires { ⌜ (1 ≤ pitch) × (2 * (pitch + 1) ≤ n) × (n ≤ area) × (area ≤ length (now copy)) × (4 * area ≤ length (now differences))
         × ((k : ℕ) → k < n → getD (now copy) k 0 < 4096) ⌝ }

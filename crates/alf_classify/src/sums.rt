@@ -1,5 +1,6 @@
 // The sums of second differences over the windows of a row of blocks: first over the window's rows, for each column once, then over its
 // columns.
+//   (1476) to (1479)  sum = Σ filt[ i ][ j ],  i = −2..5,  j = minY..maxY,  of those i and j that are both even or both odd
 ghost use mathlib.Core.Path.{_≡_};
 ghost use Prim.Native.Nat.{ℕ, _+_, _-_, _*_, _^_, _≤_, _<_};
 ghost use lib.ListN.{length, getD};
@@ -16,7 +17,7 @@ fn pair(d: &[u16], k: usize, pitch: usize) -> u16
     d[k] + d[k + (pitch + 1)]
 }
 
-// Over three pairs of rows.
+// The sum of one column over three pairs of rows.
 fn three_pairs(d: &[u16], k: usize, pitch: usize) -> u16
     requires { ⌜ (k + (5 * pitch + 1) < length (now d)) × (SmallRun (now d) k (k + (5 * pitch + 2))) ⌝ }
     ensures { λ r. ⌜ r ≡ columnSum (now (d .entry)) pitch 3 k ⌝ }
@@ -24,7 +25,7 @@ fn three_pairs(d: &[u16], k: usize, pitch: usize) -> u16
     pair(d, k, pitch) + pair(d, k + 2 * pitch, pitch) + pair(d, k + 4 * pitch, pitch)
 }
 
-// The same of n columns, one after the other.
+// The sums of n columns over three pairs of rows, one column after the other.
 fn sum_three_pairs(d: &[u16], from: usize, pitch: usize, n: usize, sums: &mut [u16])
     requires { ⌜ (n ≤ length (now sums)) × (from + n + (5 * pitch + 1) ≤ length (now d))
         × (SmallRun (now d) from (from + n + (5 * pitch + 1))) ⌝ }
@@ -51,7 +52,7 @@ fn add_pair(d: &[u16], from: usize, pitch: usize, n: usize, sums: &mut [u16])
     }
 }
 
-// Over three or four pairs of rows, of n columns.
+// The sums of n columns over three or four pairs of rows.
 pub(crate) fn column_sums(
     d: &[u16],
     from: usize,
@@ -71,13 +72,14 @@ pub(crate) fn column_sums(
     }
 }
 
+// A sum of 16 bits, so that it can be added without overflow.
 fn wide(n: u16) -> u32
     ensures { λ r. ⌜ (r ≡ n) × (r < 2 ^ 16) ⌝ }
 {
     n as u32
 }
 
-// Over the columns of a block's window.
+// The sum over the columns of a block's window: four cells of two columns.
 pub(crate) fn block_sum(sums: &[u16], at: usize) -> u32
     requires { ⌜ at + 6 < length (now sums) ⌝ }
     ensures { λ r. ⌜ (r ≡ fourColumns (now (sums .entry)) at) × (r < 2 ^ 18) ⌝ }

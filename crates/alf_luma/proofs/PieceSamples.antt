@@ -147,7 +147,7 @@ module _ {i : Input} {p : Picture} {c : Ctb} {sides : Sides} (ctb : CtbOf (i .la
           ∷ here 2 (x - 1) (omega arith) (omega arith) k
           ∷ []
 
-      -- with the filter of a class
+      -- (1466) to (1469) with the filter of a class, from the copy
       with-class : (class : Class) → (class .filter < 25) × (class .transpose < 4) → let starts = startsOf (pitch columns) t r in
           lumaWith i x y class r
           ≡ filtered (p .«bit_depth») (r .shift) (current copy starts s)
@@ -189,7 +189,7 @@ module _ {i : Input} {p : Picture} {c : Ctb} {sides : Sides} (ctb : CtbOf (i .la
         ∙ with-class (lumaRowsAtRow (p .height) (g .ctb) y) (luma-offsets _ _) (pieceClass p (g .ctb) copy columns rows (s / 4) (t / 4))
         (class-of-range _ _ _))
 
-  -- at index k of the plane
+  -- the filtered sample at index k of the plane
   pub samples-same : (k : ℕ) → inRect (p .width) (columns .start) (columns .end) (rows .start) (rows .end) k ≡ true
       → lumaCopySampleAt p (g .ctb) copy columns rows filters k ≡ atIndex (lumaPlane l) (lumaSample i) k
   unfolding atIndex planeOf

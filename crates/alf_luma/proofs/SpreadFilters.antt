@@ -54,7 +54,7 @@ ownCoeff filters c j = getD filters (24 * c .filter + tapOrder (c .transpose) j)
 abbrev pub ownClip : List ℤ → Class → ℕ → ℤ
 ownClip filters c j = getD filters (24 * c .filter + (12 + tapOrder (c .transpose) j)) (pos 0)
 
--- at each of n columns stands that of its block
+-- the filter of its block stands at each of n columns
 pub record RowFilters (filters taps : List ℤ) (class : ℕ → Class) (n : ℕ) : Type 0 where
   pub coefficients : (x j : ℕ) → x < n → j < 12 → spreadCoeff taps x j ≡ ownCoeff filters (class (x / 4)) j
   pub clips : (x j : ℕ) → x < n → j < 12 → spreadClip taps x j ≡ ownClip filters (class (x / 4)) j

@@ -14,7 +14,7 @@ module _ (copy : List ℕ) (s : Starts) (x : ℕ) where
   abbrev pub current : ℕ
   current = getD copy (s .here + x + 3) 0
 
-  -- (1467): the first of each pair, as in `lumaPlus`
+  -- (1467): the first neighbour of each tap, as in `lumaPlus`
   abbrev pub plusSamples : List ℕ
   plusSamples =
       getD copy (s .below3 + x + 3) 0
@@ -25,7 +25,7 @@ module _ (copy : List ℕ) (s : Starts) (x : ℕ) where
       ∷ getD copy (s .here + x + 6) 0 ∷ getD copy (s .here + x + 5) 0 ∷ getD copy (s .here + x + 4) 0
       ∷ []
 
-  -- (1467): the second of each pair, as in `lumaMinus`
+  -- (1467): the second neighbour of each tap, as in `lumaMinus`
   abbrev pub minusSamples : List ℕ
   minusSamples =
       getD copy (s .above3 + x + 3) 0
@@ -42,7 +42,7 @@ filteredAt depth shift copy taps s x =
     filtered depth shift (current copy s x)
     (tapSum 12 (current copy s x) (spreadCoeff taps x) (spreadClip taps x) (plusSamples copy s x) (minusSamples copy s x))
 
--- at index k of the plane, where column 0 stands at index `from`
+-- the filtered sample at index k of the plane, where column 0 stands at index `from`
 abbrev pub rowFrom : ℕ → ℕ → List ℕ → List ℤ → Starts → ℕ → ℕ → ℕ
 rowFrom depth shift copy taps s from k = filteredAt depth shift copy taps s (k - from)
 

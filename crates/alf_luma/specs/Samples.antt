@@ -41,8 +41,8 @@ startsOf pitch t r = record {
   below3 = (t + 3 + r .y3) * pitch;
 }
 
--- at index k of the plane, with filters that are spread over n columns from column `left` on; row `top` of the picture is row t of the
--- piece
+-- the filtered sample at index k of the plane, with filters that are spread over n columns from column `left` on; row `top` of the picture
+-- is row t of the piece
 unfoldable pub spreadSampleAt : Picture → ℕ → List ℕ → List ℤ → ℕ → ℕ → ℕ → ℕ → ℕ → ℕ
 spreadSampleAt p ctb copy taps left n top t k =
     let y = k / p .width in
@@ -73,14 +73,14 @@ module _ (p : Picture) (ctb : ℕ) (copy : List ℕ) (columns rows : Piece) wher
       (λ j. getD filters (24 * class .filter + (12 + tapOrder (class .transpose) j)) (pos 0))
       (plusSamples copy starts s) (minusSamples copy starts s))
 
-  -- at index k of the plane
+  -- the filtered sample at index k of the plane
   abbrev pub lumaCopySampleAt : List ℤ → ℕ → ℕ
   lumaCopySampleAt filters k = lumaCopySample filters (k % p .width) (k / p .width)
 
 -- ---- what the functions are given
 
--- what a row of blocks is filtered with: an accepted picture, the filters of a CTB, the tap orders, room for the spread filters, and an output
--- of the picture's size
+-- what a row of blocks is filtered with: an accepted picture, the filters of a CTB, the tap orders, room for the spread filters, and an
+-- output of the picture's size
 pub record BlockRowInput (p : Picture) (g : Grid) (filters : List ℤ) (orders : List ℕ) (taps : List ℤ) (output : ℕ) : Type 0 where
   pub picture : AcceptedPicture p g
   pub numbers : FilterNumbers filters
@@ -88,16 +88,17 @@ pub record BlockRowInput (p : Picture) (g : Grid) (filters : List ℤ) (orders :
   pub spread : TapNumbers taps
   pub outputLength : output ≡ p .width * p .height
 
--- a piece and its copy
+-- a piece of whole blocks, and its copy, which holds samples
 pub record PieceCopy (p : Picture) (columns rows : Piece) (copy : List ℕ) : Type 0 where
   pub across : BlockPiece (p .width) columns
   pub down : BlockPiece (p .height) rows
   pub room : copyLength columns rows ≤ length copy
   pub samples : (k : ℕ) → k < copyLength columns rows → getD copy k 0 < 4096
 
--- what a piece is filtered with: beside that, the picture's luma samples, and room for the piece's copy and for its differences
-pub record LumaPieceInput (p : Picture) (g : Grid) (luma : List ℕ) (filters : List ℤ) (orders : List ℕ) (copy differences : ℕ) (taps : List ℤ)
-    (output : ℕ) : Type 0 where
+-- what a piece is filtered with: what each of its rows of blocks is, the picture's luma samples, and room for the piece's copy and for its
+-- differences
+pub record LumaPieceInput (p : Picture) (g : Grid) (luma : List ℕ) (filters : List ℤ) (orders : List ℕ)
+    (copy differences : ℕ) (taps : List ℤ) (output : ℕ) : Type 0 where
   pub blocks : BlockRowInput p g filters orders taps output
   pub lumaLength : length luma ≡ p .width * p .height
   pub samples : (k : ℕ) → getD luma k 0 < 4096

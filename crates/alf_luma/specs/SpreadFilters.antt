@@ -10,7 +10,7 @@ use Rattle.alf_spec.specs.Luma.{tapOrder}
 
 -- ---- the tap orders as a table: 24 entries for each transpose
 
--- which of a filter's 24 numbers is number j in that order: idx of (1460) to (1463) for the coefficients, and again for the clips
+-- which of a filter's 24 numbers is number j in that order: idx of (1460) to (1463), for its coefficients and for its clips
 unfoldable pub tapIndex : ℕ → ℕ → ℕ
 tapIndex transpose j = cond (ltb j 12) (tapOrder transpose j) (12 + tapOrder transpose (j - 12))
 

@@ -1,5 +1,9 @@
-// A row of filtered samples, from the copy of a piece. One loop over the columns, with all twelve taps in its body and loads and stores of
-// 16 bits only: so the compiler makes vectors of eight columns.
+// A row of filtered samples, from the copy of a piece:
+//   (1467)  sum = Σ f[ idx[ j ] ] * ( Clip3( −c, c, plus_j − curr ) + Clip3( −c, c, minus_j − curr ) ),  c = c[ idx[ j ] ],  j = 0..11
+//   (1468), (1469)  Clip3( 0, ( 1 << BitDepth ) − 1, curr + ( ( sum + 64 ) >> alfShiftY ) )
+// where plus_j and minus_j lie opposite each other: one tap y3 below and above, three y2, five y1, and three in the sample's own row.
+// One loop over the columns, with all twelve taps in its body and loads and stores of 16 bits only: so the compiler makes vectors of eight
+// columns.
 ghost use mathlib.Core.Path.{_≡_};
 ghost use Prim.Native.Nat.{_+_, _-_, _≤_, _<_};
 ghost use lib.ListN.{length};
@@ -22,7 +26,7 @@ pub struct Starts {
     pub below3: usize,
 }
 
-// The twelve taps of (1467), at column x.
+// (1467): the twelve taps of the sample `curr` at column x, which stands at column x + 3 of the copy, since the margin has three columns.
 fn luma_sum(copy: &[u16], curr: u16, x: usize, s: Starts, taps: &[i16]) -> i32
     requires { ⌜ (RowReads (now copy) s (x + 1)) × (TapNumbers (now taps)) × (x < 128) × (curr < 4096) ⌝ }
     ensures { λ r. ⌜ r ≡ tapSum 12 curr (spreadCoeff (now (taps .entry)) x) (spreadClip (now (taps .entry)) x)
@@ -42,7 +46,7 @@ fn luma_sum(copy: &[u16], curr: u16, x: usize, s: Starts, taps: &[i16]) -> i32
     add_tap(s10, copy, curr, x, s.here, 4, s.here, 2, taps, 1408)
 }
 
-// The filtered sample at column x.
+// (1466), (1468), (1469): the filtered sample at column x.
 fn luma_at(copy: &[u16], x: usize, s: Starts, taps: &[i16], shift: u32, depth: u32) -> u16
     requires { ⌜ (RowReads (now copy) s (x + 1)) × (TapNumbers (now taps)) × (x < 128) × (shift < 32) × (depth ≤ 12) ⌝ }
     ensures { λ r. ⌜ r ≡ filteredAt depth shift (now (copy .entry)) (now (taps .entry)) s x ⌝ }

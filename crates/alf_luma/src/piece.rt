@@ -68,9 +68,11 @@ fn filter_row(
     from: usize,
     n: usize,
 )
-    requires { ⌜ (AcceptedPicture picture grid) × (y ≤ 4096) × (pitch ≡ n + 6) × (n ≤ 128) × (t ≤ 127) × ((t + 7) * pitch ≤ length (now copy))
+    requires { ⌜ (AcceptedPicture picture grid) × (y ≤ 4096) × (pitch ≡ n + 6) × (n ≤ 128) × (t ≤ 127)
+        × ((t + 7) * pitch ≤ length (now copy))
         × ((k : ℕ) → k < (t + 7) * pitch → getD (now copy) k 0 < 4096) × (TapNumbers (now taps)) × (from + n ≤ length (now output)) ⌝ }
-    ensures { λ _. ⌜ (let r = lumaRowsAtRow (picture .height) (grid .ctb) y in now (output .exit) ≡ painted (now (output .entry)) (between from n)
+    ensures { λ _. ⌜ (let r = lumaRowsAtRow (picture .height) (grid .ctb) y in now (output .exit) ≡ painted (now (output .entry))
+        (between from n)
         (rowFrom (picture .«bit_depth») (r .shift) (now (copy .entry)) (now (taps .entry)) (startsOf pitch t r) from)) ⌝ }
 {
     let line = line_rule(picture.height, grid.ctb, y);
@@ -139,7 +141,8 @@ fn filter_blocks(
         × (length (now map) ≡ 1024) × (MapOf picture (grid .ctb) (now copy) columns rows (now map)) × (row < extentOf rows / 4) ⌝ }
     ensures { λ _. ⌜ (now (output .exit) ≡ painted (now (output .entry))
         (inRect (picture .width) (columns .start) (columns .end) (rows .start + 4 * row) (rows .start + 4 * row + 4))
-        (lumaCopySampleAt picture (grid .ctb) (now (copy .entry)) columns rows (now (filters .entry)))) × (TapNumbers (now (taps .exit))) ⌝ }
+        (lumaCopySampleAt picture (grid .ctb) (now (copy .entry)) columns rows (now (filters .entry))))
+        × (TapNumbers (now (taps .exit))) ⌝ }
 {
     let n = extent(columns);
     let left = columns.start as usize;
@@ -166,7 +169,8 @@ fn filter_copy(
         × (length (now map) ≡ 1024) × (MapOf picture (grid .ctb) (now copy) columns rows (now map)) ⌝ }
     ensures { λ _. ⌜ (now (output .exit) ≡ painted (now (output .entry))
         (inRect (picture .width) (columns .start) (columns .end) (rows .start) (rows .end))
-        (lumaCopySampleAt picture (grid .ctb) (now (copy .entry)) columns rows (now (filters .entry)))) × (TapNumbers (now (taps .exit))) ⌝ }
+        (lumaCopySampleAt picture (grid .ctb) (now (copy .entry)) columns rows (now (filters .entry))))
+        × (TapNumbers (now (taps .exit))) ⌝ }
 {
     let count = extent(rows) / 4;
     let mut row: usize = 0;
@@ -204,7 +208,8 @@ pub fn filter_piece(
     taps: &mut [i16],
     output: &mut [u16],
 )
-    requires { ⌜ (LumaPieceInput picture grid (now luma) (now filters) (now orders) (length (now copy)) (length (now differences)) (now taps)
+    requires { ⌜ (LumaPieceInput picture grid (now luma) (now filters) (now orders) (length (now copy))
+        (length (now differences)) (now taps)
         (length (now output)))
         × (BlockPiece (picture .width) columns) × (BlockPiece (picture .height) rows) ⌝ }
     ensures { λ _. ⌜ ((i : Input) (c : Ctb) → CtbOf (i .layout) picture c sides → i .luma ≡ now (luma .entry)

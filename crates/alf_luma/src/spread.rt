@@ -85,7 +85,8 @@ pub(crate) fn spread(
     count: usize,
     taps: &mut [i16],
 )
-    requires { ⌜ (FilterNumbers (now filters)) × (TapOrders (now orders)) × (at + count ≤ length (now map)) × (ClassNumbers (now map) at count)
+    requires { ⌜ (FilterNumbers (now filters)) × (TapOrders (now orders)) × (at + count ≤ length (now map))
+        × (ClassNumbers (now map) at count)
         × (count ≤ 32) × (2 * clipsAt ≤ length (now taps)) ⌝ }
     ensures { λ _. ⌜ Filled (pos 0) (now (taps .entry)) (inRect 128 0 (4 * count) 0 24)
         (spreadFrom (now (filters .entry)) (now (orders .entry)) (now (map .entry)) at) (now (taps .exit)) ⌝ }

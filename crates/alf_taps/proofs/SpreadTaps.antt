@@ -1,5 +1,5 @@
--- The taps of a sample by numbers that are spread over the columns: what a call of `add_tap` asks and gives where a kernel makes the sum tap
--- by tap, how large the sum can be, and that equal numbers give equal sums. Assumes nothing.
+-- The taps of a sample by numbers that are spread over the columns: what a call of `add_tap` asks and gives where a kernel makes the sum
+-- tap by tap, how large the sum can be, and that equal numbers give equal sums. Assumes nothing.
 use mathlib.Core.Path.{_≡_}
 use mathlib.Core.List.{List}
 use Prim.Native.Nat.{ℕ, suc, _+_, _*_, _^_, _≤_, _<_}
@@ -15,7 +15,7 @@ use Rattle.alf_math.proofs.Magnitude.{abs-tap, abs-tap-sum}
 use Rattle.alf_math.proofs.TapByTap.{Summed, summed-more}
 use Rattle.alf_taps.specs.Spread.{clipsAt, spreadCoeff, spreadClip, TapNumbers}
 
--- what a kernel has of the sample `curr` at column x: the taps' numbers are in their ranges, and the first `end` places of the copy are
+-- what a kernel has of the sample `curr` at column x: the taps' numbers are in their ranges, and the first `end` entries of the copy are
 -- samples
 pub record TapsGiven (copy : List ℕ) (taps : List ℤ) (x curr end : ℕ) : Type 0 where
   pub numbers : TapNumbers taps

@@ -6,7 +6,7 @@ use lib.IntN.{ℤ, pos}
 use lib.ListN.{length, getD}
 use Rattle.alf_math.specs.Integers.{CoeffRange, ClipRange}
 
--- where the clips begin
+-- the index at which the clips begin
 abbrev pub clipsAt : ℕ
 clipsAt = 1536
 
@@ -14,11 +14,11 @@ clipsAt = 1536
 abbrev pub spreadCoeff : List ℤ → ℕ → ℕ → ℤ
 spreadCoeff taps x j = getD taps (128 * j + x) (pos 0)
 
--- and its clip
+-- the clip of tap j at column x
 abbrev pub spreadClip : List ℤ → ℕ → ℕ → ℤ
 spreadClip taps x j = getD taps (clipsAt + (128 * j + x)) (pos 0)
 
--- all are in their ranges
+-- the spread coefficients and clips are in their ranges
 pub record TapNumbers (taps : List ℤ) : Type 0 where
   pub room : 2 * clipsAt ≤ length taps
   pub coefficients : (k : ℕ) → k < clipsAt → CoeffRange (getD taps k (pos 0))

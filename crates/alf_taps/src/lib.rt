@@ -1,4 +1,6 @@
-// Taps over the copy of a piece, for luma and chroma alike. A filter's numbers are spread over the columns of a row beforehand, so that a
+// Taps over the copy of a piece, for luma (1467) and chroma (1508) alike:
+//   tap = f * ( Clip3( −c, c, plus − curr ) + Clip3( −c, c, minus − curr ) )
+// A filter's numbers are spread over the columns of a row beforehand, so that a
 // loop over the columns reads one coefficient and one clip for each tap and sample, and vectors hold eight columns.
 ghost use mathlib.Core.Path.{_≡_};
 ghost use Prim.Native.Nat.{_+_, _*_, _^_, _≤_, _<_};

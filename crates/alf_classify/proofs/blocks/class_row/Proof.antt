@@ -38,14 +38,14 @@ returns c =
     ap (λ (z : Sums). classNumber (classOfSums (a .depth) (a .window .factor) z))
     (sums-of-block _ _ _ (4 * a .count + 3) (4 * (k - a .at)) (omega arith) (a .from) (omega arith) v h d0 d1)))
 
--- of a row of blocks: its columns have room in a list of sums, and since the differences of the last direction stand in their list, so do
+-- the columns of a row of blocks have room in a list of sums, and since the differences of the last direction stand in their list, so do
 -- those of the other three
 row-fits : (count from reach n : ℕ) → count ≤ 32 → 3 * area + from + (4 * count + 3) + reach ≤ n
     → (4 * count + 3 ≤ 131) × (from + (4 * count + 3) + reach ≤ n) × (area + from + (4 * count + 3) + reach ≤ n)
     × (2 * area + from + (4 * count + 3) + reach ≤ n)
 row-fits count from reach n few room = omega arith
 
--- and the windows of its blocks stand in a list of sums
+-- the windows of a row of blocks stand in a list of sums
 in-sums : (count n : ℕ) → count ≤ 32 → n ≡ 131 → 4 * count + 2 < n
 in-sums count n few e = omega arith
 

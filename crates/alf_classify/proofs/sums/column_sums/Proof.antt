@@ -14,7 +14,7 @@ use Rattle.alf_classify.proofs.sums.column_sums.Tie as tie
 three-reach : (s : tie.Start) → 5 * s .args .pitch + 1 ≤ s .args .pairs * (2 * s .args .pitch) + 1 - s .args .pitch
 three-reach s = omega (arith, mul-le-mul-right (2 * s .args .pitch) (s .pre .0))
 
--- and the fourth
+-- how far four pairs reach
 four-reach : (s : tie.Start) → s .args .pairs ≡ 4 → s .args .pairs * (2 * s .args .pitch) + 1 - s .args .pitch ≡ 7 * s .args .pitch + 1
 four-reach s e = rw e (omega arith)
 

@@ -17,7 +17,8 @@ abbrev start : tie.After-luma-rows → tie.Start
 start c = search needs
 
 -- the offsets are those of Table 45 at row y
-rows-are : (c : tie.After-luma-rows) → let a = start c .args in c .luma-rows .result ≡ lumaRowsAtRow (a .picture .height) (a .grid .ctb) (a .y)
+rows-are : (c : tie.After-luma-rows) → let a = start c .args in c .luma-rows .result ≡ lumaRowsAtRow (a .picture .height)
+    (a .grid .ctb) (a .y)
 rows-are c =
     let a = start c .args in
     rw (c .before .before .before .line-rule .ensures (axisOf (a .picture .height) (a .grid .ctb) [] 4 1) refl refl) at
