@@ -1,19 +1,23 @@
 -- Laws of the rules for clip positions. Assumes nothing.
-use mathlib.Core.Path.{_≡_, refl, sym, _∙_}
+use mathlib.Core.Path.{_≡_, refl, sym, ap, _∙_}
 use mathlib.Core.Bool.{Bool, true, false}
 use mathlib.Core.List.{List}
 use mathlib.Core.Option.{some, none}
 use Prim.Native.Nat.{ℕ, _+_, _-_, _*_, _/_, _%_, _≤_, _<_}
-use native.Mathlib.Nat.{le-antisymm, div-mul-le-self, div-add-mod'}
+use native.Mathlib.Nat.{le-antisymm, mod-lt, div-mul-le-self, div-add-mod'}
 use native.Mathlib.Numerals.{add-one}
 use native.Mathlib.Omega.{arith}
 use lib.Dec.{leb}
 use lib.ListN.{length, getD, drop}
 use lib.Seq.{drop-cons, drop-length}
 use borrow.Author.Tests.{leb-true, le-leb}
+use Rattle.alf_spec.specs.declared.ClipCause.{ClipCause}
 use Rattle.alf_spec.specs.declared.ClipCause.the-variants.{VirtualBoundary}
+use Rattle.alf_spec.specs.Geometry.{Side, before, after}
 use Rattle.alf_spec.specs.Boundary.{find}
 use Rattle.alf_spec.proofs.Tests.{same-test}
+use Rattle.alf_boundary.specs.declared.clips.CtbAxis.{CtbAxis}
+use Rattle.alf_boundary.specs.Clips.{InCtb}
 
 -- a distance against a limit, without a difference
 pub distance-le : (x v k : ℕ) → leb (x - v) k ≡ leb x (v + k)
@@ -22,12 +26,29 @@ distance-le x v k =
     (λ q. let h = leb-true (x - v) k q in le-leb x (v + k) (omega arith))
     (λ q. let h = leb-true x (v + k) q in le-leb (x - v) k (omega arith))
 
--- where the CTB of x begins, and how far x lies in it
-pub start-le : (start ctb x : ℕ) → start ≡ x / ctb * ctb → start ≤ x
-start-le start ctb x e = omega (arith, div-mul-le-self x ctb)
+-- two sides with the same causes
+pub sides-same : {given side : Side → ClipCause} → given before ≡ side before → given after ≡ side after → given ≡ side
+sides-same {given} {side} first last = λ t d. at d t
+  where
+    at : (d : Side) → given d ≡ side d
+    at before = first
+    at after = last
 
-pub in-ctb : (start ctb x : ℕ) → start ≡ x / ctb * ctb → x - start ≡ x % ctb
-in-ctb start ctb x e = omega (arith, div-add-mod' x ctb)
+-- a position of an axis's CTB: where the CTB begins, and how far the position lies in it
+module _ {a : CtbAxis} {x : ℕ} (h : InCtb a x) where
+  pub start-is : a .place * a .ctb ≡ x / a .ctb * a .ctb
+  start-is = ap (λ (q : ℕ). q * a .ctb) (h .place)
+
+  pub start-le : a .place * a .ctb ≤ x
+  start-le = omega (arith, start-is, div-mul-le-self x (a .ctb))
+
+  pub in-ctb : x - a .place * a .ctb ≡ x % a .ctb
+  in-ctb = omega (arith, start-is, div-add-mod' x (a .ctb))
+
+  pub in-ctb-lt : x - a .place * a .ctb < a .ctb
+  in-ctb-lt =
+      let positive : 0 < a .ctb = omega (arith, h .low) in
+      omega (arith, in-ctb, mod-lt x positive)
 
 -- ---- a loop that is left at the first entry that passes
 

@@ -1,10 +1,16 @@
 -- Clip positions as code has them. Assumes nothing.
 use mathlib.Core.Path.{_≡_}
 use mathlib.Core.Bool.{Bool, true, false}
+use mathlib.Core.List.{List}
 use mathlib.Core.Option.{Option, some, none, Option·map}
-use Prim.Native.Nat.{ℕ, _*_, _/_, _≤_}
+use Prim.Native.Nat.{ℕ, _/_, _≤_}
 use Rattle.alf_spec.specs.declared.Clip.{Clip}
-use Rattle.alf_spec.specs.Geometry.{Side, before, after}
+use Rattle.alf_spec.specs.declared.ClipCause.{ClipCause}
+use Rattle.alf_spec.specs.declared.Grid.{Grid}
+use Rattle.alf_spec.specs.declared.Picture.{Picture}
+use Rattle.alf_spec.specs.declared.Sides.{Sides}
+use Rattle.alf_spec.specs.Geometry.{Side, before, after, Axis, axisOf}
+use Rattle.alf_boundary.specs.declared.clips.CtbAxis.{CtbAxis}
 use Rattle.alf_boundary.specs.declared.clips.FoundClip.{FoundClip}
 use Rattle.alf_boundary.specs.declared.clips.FoundClip.the-variants.{At, Nowhere}
 
@@ -22,10 +28,33 @@ abbrev pub sideOf : Bool → Side
 sideOf false = before
 sideOf true = after
 
--- a CTB's side and a position, as small as 32-bit sums need
+-- ---- one axis of the picture through one CTB, as code has it
+
+-- the axis of columns through a CTB with the sides s, in the CTB column q: columns have no line
+abbrev pub columnAxis : Picture → Grid → Sides → ℕ → CtbAxis
+columnAxis p g s q = record { size = p .width; ctb = g .ctb; line = 0; before = s .left; after = s .right; place = q }
+
+-- the axis of rows, in the CTB row q, with the line so many luma rows above the CTB's bottom
+abbrev pub rowAxis : Picture → Grid → Sides → ℕ → ℕ → CtbAxis
+rowAxis p g s line q = record { size = p .height; ctb = g .ctb; line = line; before = s .top; after = s .bottom; place = q }
+
+-- it as an axis of a plane with this ratio to luma, with these virtual boundaries
+abbrev pub axisAlong : CtbAxis → List ℕ → ℕ → Axis
+axisAlong a virtualBoundaries ratio = axisOf (a .size) (a .ctb) virtualBoundaries (a .line) ratio
+
+-- the causes at the CTB's sides
+abbrev pub sidesAlong : CtbAxis → Side → ClipCause
+sidesAlong a before = a .before
+sidesAlong a after = a .after
+
+-- a CTB's size and a position, as small as 32-bit sums need
 abbrev pub Bounded : ℕ → ℕ → Type 0
 Bounded ctb x = (4 ≤ ctb) × (ctb ≤ 128) × (x ≤ 65535)
 
--- the same, how far above a CTB's bottom the line lies, and where the CTB of the position begins: a caller that goes along a CTB knows it
-abbrev pub InCtb : ℕ → ℕ → ℕ → ℕ → Type 0
-InCtb start ctb line x = (4 ≤ ctb) × (ctb ≤ 128) × (x ≤ 65535) × (line ≤ 4) × (start ≡ x / ctb * ctb)
+-- x is a position of the axis's CTB, and all numbers are as small as 32-bit sums need
+pub record InCtb (a : CtbAxis) (x : ℕ) : Type 0 where
+  pub low : 4 ≤ a .ctb
+  pub high : a .ctb ≤ 128
+  pub line : a .line ≤ 4
+  pub small : x ≤ 65535
+  pub place : a .place ≡ x / a .ctb

@@ -3,18 +3,67 @@
 ghost use mathlib.Core.Path.{_≡_};
 ghost use mathlib.Core.List.{List};
 ghost use Prim.Native.Nat.{ℕ, _+_, _-_, _*_, _/_, _≤_, _<_};
-ghost use Rattle.alf_spec.specs.declared.ClipCause.{ClipCause};
-ghost use Rattle.alf_spec.specs.Geometry.{Side, before, after, Axis, lineRule, axisOf};
+ghost use Rattle.alf_spec.specs.Geometry.{Axis, lineRule, axisOf};
 ghost use Rattle.alf_spec.specs.Boundary.{only, _orElse_, near, lineClip, virtualClip, sideClip, clip, causeOf};
-ghost use Rattle.alf_boundary.specs.Clips.{clipOf, sideOf, Bounded, InCtb};
+ghost use Rattle.alf_boundary.specs.Clips.{clipOf, sideOf, columnAxis, rowAxis, axisAlong, sidesAlong, Bounded, InCtb};
 use crate::causes::disables;
 use alf_spec::Clip;
 use alf_spec::ClipCause;
+use alf_spec::Grid;
+use alf_spec::Picture;
+use alf_spec::Sides;
 
 // What the rules find on one side of a position: a clip position with its cause, or none.
 pub enum FoundClip {
     At(Clip),
     Nowhere,
+}
+
+// One axis of the picture through one of its CTBs. Columns and rows have an axis each, so that every rule along an axis is one function;
+// the axis's virtual boundaries are passed beside it.
+pub struct CtbAxis {
+    // the picture's samples along it, and a CTB's
+    pub size: u32,
+    pub ctb: u32,
+    // how far above the CTB's bottom the line-buffer boundary lies, in luma rows: 0 where there is none, as along columns
+    pub line: u32,
+    // the causes at the CTB's two sides: left and right, or top and bottom
+    pub before: ClipCause,
+    pub after: ClipCause,
+    // the CTB's column or row in the grid
+    pub place: u32,
+}
+
+// The axis of columns through a CTB of the CTB column q.
+pub fn column_axis(picture: Picture, grid: Grid, sides: Sides, q: u32) -> CtbAxis
+    ensures { λ r. ⌜ r ≡ columnAxis picture grid sides q ⌝ }
+{
+    let left = sides.left;
+    let right = sides.right;
+    CtbAxis {
+        size: picture.width,
+        ctb: grid.ctb,
+        line: 0,
+        before: left,
+        after: right,
+        place: q,
+    }
+}
+
+// The axis of rows through a CTB of the CTB row q, with the line so many luma rows above the CTB's bottom.
+pub fn row_axis(picture: Picture, grid: Grid, sides: Sides, line: u32, q: u32) -> CtbAxis
+    ensures { λ r. ⌜ r ≡ rowAxis picture grid sides line q ⌝ }
+{
+    let top = sides.top;
+    let bottom = sides.bottom;
+    CtbAxis {
+        size: picture.height,
+        ctb: grid.ctb,
+        line: line,
+        before: top,
+        after: bottom,
+        place: q,
+    }
 }
 
 // The clip position with its cause, where the test passes.
@@ -83,12 +132,12 @@ pub fn virtual_clip(after: bool, boundaries: &[u16], x: u32) -> FoundClip
     FoundClip::Nowhere
 }
 
-// Where the CTB of x begins.
-pub fn ctb_start(ctb: u32, x: u32) -> u32
-    requires { ⌜ Bounded ctb x ⌝ }
-    ensures { λ r. ⌜ r ≡ x / ctb * ctb ⌝ }
+// Where the axis's CTB begins.
+pub fn ctb_start(axis: CtbAxis) -> u32
+    requires { ⌜ axis .place * axis .ctb ≤ 65535 ⌝ }
+    ensures { λ r. ⌜ r ≡ axis .place * axis .ctb ⌝ }
 {
-    x / ctb * ctb
+    axis.place * axis.ctb
 }
 
 // The line rule: all rows of y's CTB lie in the picture.
@@ -96,90 +145,64 @@ pub fn line_rule(size: u32, ctb: u32, y: u32) -> bool
     requires { ⌜ Bounded ctb y ⌝ }
     ensures { λ r. ⌜ ((a : Axis) → a .size ≡ size → a .ctb ≡ ctb → r ≡ lineRule a y) ⌝ }
 {
-    ctb_start(ctb, y) + ctb <= size
+    y / ctb * ctb + ctb <= size
 }
 
-// The line-buffer boundary, which lies so many luma rows above the CTB's bottom, where x is at or below it; there is none where the number
-// is 0.
-fn line_clip_before(start: u32, ctb: u32, line: u32, x: u32) -> FoundClip
-    requires { ⌜ InCtb start ctb line x ⌝ }
-    ensures { λ r. ⌜ ((size : ℕ) (boundaries : List ℕ) (ratio : ℕ)
-        → clipOf r ≡ lineClip (axisOf size ctb boundaries line ratio) x before) ⌝ }
+// The line-buffer boundary, where x lies at or below it, or 1 to 4 rows above it.
+fn line_clip(axis: CtbAxis, after: bool, x: u32) -> FoundClip
+    requires { ⌜ InCtb axis x ⌝ }
+    ensures { λ r. ⌜ ((boundaries : List ℕ) (ratio : ℕ) → clipOf r ≡ lineClip (axisAlong axis boundaries ratio) x (sideOf after)) ⌝ }
 {
-    let at = start + (ctb - line);
-    only_if(
-        (0 < line) & (ctb - line <= x - start),
-        ClipCause::LineBufferBoundary,
-        at,
-    )
+    let start = ctb_start(axis);
+    let at = start + (axis.ctb - axis.line);
+    if after {
+        only_if(
+            (0 < axis.line) & ((x < at) & (at <= x + 4)),
+            ClipCause::LineBufferBoundary,
+            at,
+        )
+    } else {
+        only_if(
+            (0 < axis.line) & (axis.ctb - axis.line <= x - start),
+            ClipCause::LineBufferBoundary,
+            at,
+        )
+    }
 }
 
-// The same where x is 1 to 4 rows above it.
-fn line_clip_after(start: u32, ctb: u32, line: u32, x: u32) -> FoundClip
-    requires { ⌜ InCtb start ctb line x ⌝ }
-    ensures { λ r. ⌜ ((size : ℕ) (boundaries : List ℕ) (ratio : ℕ)
-        → clipOf r ≡ lineClip (axisOf size ctb boundaries line ratio) x after) ⌝ }
+// The CTB's side, where filtering across it is disabled: x lies at most 2 behind it, or at most 4 before it.
+fn side_clip(axis: CtbAxis, after: bool, x: u32) -> FoundClip
+    requires { ⌜ InCtb axis x ⌝ }
+    ensures { λ r. ⌜ ((boundaries : List ℕ) (ratio : ℕ)
+        → clipOf r ≡ sideClip (axisAlong axis boundaries ratio) x (sidesAlong axis) (sideOf after)) ⌝ }
 {
-    let at = start + (ctb - line);
-    only_if(
-        (0 < line) & ((x < at) & (at <= x + 4)),
-        ClipCause::LineBufferBoundary,
-        at,
-    )
+    let start = ctb_start(axis);
+    if after {
+        let side = axis.after;
+        only_if(
+            (axis.ctb - (x - start) < 5) & disables(side),
+            side,
+            start + axis.ctb,
+        )
+    } else {
+        let side = axis.before;
+        only_if((x - start < 3) & disables(side), side, start)
+    }
 }
 
-// The side of the CTB left of x or above it, where x is at most 2 from it and filtering across it is disabled.
-fn side_clip_before(start: u32, ctb: u32, side: ClipCause, x: u32) -> FoundClip
-    requires { ⌜ InCtb start ctb 0 x ⌝ }
-    ensures { λ r. ⌜ ((size : ℕ) (boundaries : List ℕ) (line ratio : ℕ) (sides : Side → ClipCause) → sides before ≡ side
-        → clipOf r ≡ sideClip (axisOf size ctb boundaries line ratio) x sides before) ⌝ }
+// What the rules find on one side of x, a position of the axis's CTB. Before x the line-buffer boundary comes first, then a virtual
+// boundary, then the CTB's side; after x a virtual boundary comes before the line.
+pub fn find_clip(axis: CtbAxis, boundaries: &[u16], after: bool, x: u32) -> FoundClip
+    requires { ⌜ InCtb axis x ⌝ }
+    ensures { λ r. ⌜ ((ratio : ℕ)
+        → clipOf r ≡ clip (axisAlong axis (now (boundaries .entry)) ratio) x (sidesAlong axis) (sideOf after)) ⌝ }
 {
-    only_if((x - start < 3) & disables(side), side, start)
-}
-
-// The side right of x or below it, where x is at most 4 from it and filtering across it is disabled.
-fn side_clip_after(start: u32, ctb: u32, side: ClipCause, x: u32) -> FoundClip
-    requires { ⌜ InCtb start ctb 0 x ⌝ }
-    ensures { λ r. ⌜ ((size : ℕ) (boundaries : List ℕ) (line ratio : ℕ) (sides : Side → ClipCause) → sides after ≡ side
-        → clipOf r ≡ sideClip (axisOf size ctb boundaries line ratio) x sides after) ⌝ }
-{
-    only_if((ctb - (x - start) < 5) & disables(side), side, start + ctb)
-}
-
-// Left of x or above it, in the CTB that begins at `start`: the line-buffer boundary, a virtual boundary, or the CTB's side.
-pub fn clip_before(
-    start: u32,
-    ctb: u32,
-    line: u32,
-    boundaries: &[u16],
-    side: ClipCause,
-    x: u32,
-) -> FoundClip
-    requires { ⌜ InCtb start ctb line x ⌝ }
-    ensures { λ r. ⌜ ((size ratio : ℕ) (sides : Side → ClipCause) → sides before ≡ side
-        → clipOf r ≡ clip (axisOf size ctb (now (boundaries .entry)) line ratio) x sides before) ⌝ }
-{
-    let by_line = line_clip_before(start, ctb, line, x);
-    let by_boundary = virtual_clip(false, boundaries, x);
-    let by_side = side_clip_before(start, ctb, side, x);
-    or_else(by_line, or_else(by_boundary, by_side))
-}
-
-// Right of x or below it, in the CTB that begins at `start`: a virtual boundary, the line-buffer boundary, or the CTB's side.
-pub fn clip_after(
-    start: u32,
-    ctb: u32,
-    line: u32,
-    boundaries: &[u16],
-    side: ClipCause,
-    x: u32,
-) -> FoundClip
-    requires { ⌜ InCtb start ctb line x ⌝ }
-    ensures { λ r. ⌜ ((size ratio : ℕ) (sides : Side → ClipCause) → sides after ≡ side
-        → clipOf r ≡ clip (axisOf size ctb (now (boundaries .entry)) line ratio) x sides after) ⌝ }
-{
-    let by_boundary = virtual_clip(true, boundaries, x);
-    let by_line = line_clip_after(start, ctb, line, x);
-    let by_side = side_clip_after(start, ctb, side, x);
-    or_else(by_boundary, or_else(by_line, by_side))
+    let by_line = line_clip(axis, after, x);
+    let by_boundary = virtual_clip(after, boundaries, x);
+    let by_side = side_clip(axis, after, x);
+    if after {
+        or_else(by_boundary, or_else(by_line, by_side))
+    } else {
+        or_else(by_line, or_else(by_boundary, by_side))
+    }
 }

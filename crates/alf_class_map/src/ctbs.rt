@@ -12,13 +12,15 @@ ghost use Rattle.alf_spec.specs.Faults.{virtualListValid};
 ghost use Rattle.alf_spec.specs.declared.Ctb.{Ctb};
 ghost use Rattle.alf_lists.specs.Regions.{inRect};
 ghost use Rattle.alf_pieces.specs.Pieces.{PieceOf, BlockPiece, CtbOf};
-ghost use Rattle.alf_class_map.specs.Work.{ClassWork};
+ghost use Rattle.alf_class_map.specs.ClassWork.{ClassWork, ColumnsClassified, RowsClassified};
+use alf_boundary::clips::column_axis;
+use alf_boundary::clips::ctb_start;
+use alf_boundary::clips::row_axis;
 use alf_classify::piece_classes;
 use alf_pieces::copies::copy_piece;
 use alf_pieces::pieces::Piece;
-use alf_pieces::pieces::column_piece;
 use alf_pieces::pieces::ctb_limit;
-use alf_pieces::pieces::row_piece;
+use alf_pieces::pieces::piece_at;
 use alf_spec::Ctb;
 use alf_spec::Grid;
 use alf_spec::Picture;
@@ -75,17 +77,14 @@ fn class_strip(
     requires { ⌜ (ClassWork picture grid (now luma) (length (now copy)) (length (now differences)) (length (now map)))
         × (virtualListValid (picture .width) (ctbSize picture) (now «virtual_columns») ≡ true)
         × (BlockPiece (picture .height) rows) × (ctb .column * grid .ctb < picture .width) ⌝ }
-    ensures { λ _. ⌜ ((l : Layout) → CtbOf l picture ctb sides → l .virtualColumns ≡ now («virtual_columns» .entry)
-        → PieceOf (lumaPlane l .rows) (rowSide l ctb) (ctb .row) rows
-        → now (map .exit) ≡ painted (now (map .entry))
-        (inRect (picture .width / 4) (ctb .column * grid .ctb / 4) (min (ctb .column * grid .ctb + grid .ctb) (picture .width) / 4)
-        (rows .start / 4) (rows .end / 4)) (classAt l (now (luma .entry)))) ⌝ }
+    ensures { λ _. ⌜ ColumnsClassified picture grid (now («virtual_columns» .entry)) ctb sides rows (now (luma .entry))
+        (min (ctb .column * grid .ctb + grid .ctb) (picture .width)) (now (map .entry)) (now (map .exit)) ⌝ }
 {
-    let left = ctb.column * grid.ctb;
-    let right = ctb_limit(picture.width, grid.ctb, ctb.column);
-    let mut x = left;
+    let axis = column_axis(picture, grid, sides, ctb.column);
+    let right = ctb_limit(axis);
+    let mut x = ctb_start(axis);
     while x < right {
-        let columns = column_piece(picture, grid, virtual_columns, 1, sides, ctb.column, x);
+        let columns = piece_at(axis, virtual_columns, x);
         class_piece(
             picture,
             grid,
@@ -118,16 +117,14 @@ pub(crate) fn class_ctb(
         × (virtualListValid (picture .width) (ctbSize picture) (now «virtual_columns») ≡ true)
         × (virtualListValid (picture .height) (ctbSize picture) (now «virtual_rows») ≡ true)
         × (ctb .column * grid .ctb < picture .width) × (ctb .row * grid .ctb < picture .height) ⌝ }
-    ensures { λ _. ⌜ ((l : Layout) → CtbOf l picture ctb sides → l .virtualColumns ≡ now («virtual_columns» .entry)
-        → l .virtualRows ≡ now («virtual_rows» .entry) → now (map .exit) ≡ painted (now (map .entry))
-        (inRect (picture .width / 4) (ctb .column * grid .ctb / 4) (min (ctb .column * grid .ctb + grid .ctb) (picture .width) / 4)
-        (ctb .row * grid .ctb / 4) (min (ctb .row * grid .ctb + grid .ctb) (picture .height) / 4)) (classAt l (now (luma .entry)))) ⌝ }
+    ensures { λ _. ⌜ RowsClassified picture grid (now («virtual_columns» .entry)) (now («virtual_rows» .entry)) ctb sides
+        (now (luma .entry)) (min (ctb .row * grid .ctb + grid .ctb) (picture .height)) (now (map .entry)) (now (map .exit)) ⌝ }
 {
-    let top = ctb.row * grid.ctb;
-    let bottom = ctb_limit(picture.height, grid.ctb, ctb.row);
-    let mut y = top;
+    let axis = row_axis(picture, grid, sides, 4, ctb.row);
+    let bottom = ctb_limit(axis);
+    let mut y = ctb_start(axis);
     while y < bottom {
-        let rows = row_piece(picture, grid, 4, virtual_rows, 1, sides, ctb.row, y);
+        let rows = piece_at(axis, virtual_rows, y);
         class_strip(
             picture,
             grid,

@@ -28,20 +28,21 @@ use Rattle.alf_chroma.specs.Pieces.{ChromaWork, unlinedPlane}
 use Rattle.alf_cross.specs.Pieces.{CrossFilter, CrossWork}
 use Rattle.alf_ctb.specs.declared.Filter.{Filter}
 use Rattle.alf_ctb.specs.declared.Filter.the-variants.{Luma, Chroma, CrossComponent}
-use Rattle.alf_ctb.specs.Work.{Given, Rooms, Numbers, PieceFiltered}
+use Rattle.alf_ctb.specs.FilterWork.{FilterInput, FilterRooms, Numbers, PieceFiltered}
 
 -- ---- what they are given
 
 module _ {f : Filter} {p : Picture} {g : Grid} {luma chroma places : List ℕ} (filters : List ℤ) {taps : List ℤ}
     {copy differences output : ℕ}
-    (isGiven : Given f p g luma chroma places) (isNumbers : Numbers f filters) (isRooms : Rooms f p copy differences taps output) where
+    (isInput : FilterInput f p g luma chroma places) (isNumbers : Numbers f filters)
+    (isRooms : FilterRooms f p copy differences taps output) where
   pub luma-work : f ≡ Luma → LumaPieceInput p g luma filters places copy differences taps output
   luma-work e =
-      let given = subst (λ f. Given f p g luma chroma places) e isGiven in
-      let rooms = subst (λ f. Rooms f p copy differences taps output) e isRooms in
+      let given = subst (λ f. FilterInput f p g luma chroma places) e isInput in
+      let rooms = subst (λ f. FilterRooms f p copy differences taps output) e isRooms in
       record {
         blocks = record {
-          picture = record { grid = given .grid; sizes = given .sizes; ctbSize = given .ctbSize; depth = given .depth };
+          picture = given .picture;
           numbers = subst (λ f. Numbers f filters) e isNumbers;
           order = given .order;
           spread = rooms .spread;
@@ -55,11 +56,11 @@ module _ {f : Filter} {p : Picture} {g : Grid} {luma chroma places : List ℕ} (
 
   pub chroma-work : {component : ℕ} → f ≡ Chroma component → ChromaWork p g chroma filters copy taps output
   chroma-work e =
-      let given = subst (λ f. Given f p g luma chroma places) e isGiven in
-      let rooms = subst (λ f. Rooms f p copy differences taps output) e isRooms in
+      let given = subst (λ f. FilterInput f p g luma chroma places) e isInput in
+      let rooms = subst (λ f. FilterRooms f p copy differences taps output) e isRooms in
       let numbers = subst (λ f. Numbers f filters) e isNumbers in
       record {
-        picture = record { grid = given .grid; sizes = given .sizes; ctbSize = given .ctbSize; depth = given .depth };
+        picture = given .picture;
         chromaLength = given .chromaLength refl;
         outputLength = rooms .outputLength;
         samples = given .chroma refl;
@@ -72,12 +73,12 @@ module _ {f : Filter} {p : Picture} {g : Grid} {luma chroma places : List ℕ} (
 
   pub cross-work : {component : ℕ} → f ≡ CrossComponent component → CrossWork p g luma chroma filters copy differences output
   cross-work e =
-      let given = subst (λ f. Given f p g luma chroma places) e isGiven in
-      let rooms = subst (λ f. Rooms f p copy differences taps output) e isRooms in
+      let given = subst (λ f. FilterInput f p g luma chroma places) e isInput in
+      let rooms = subst (λ f. FilterRooms f p copy differences taps output) e isRooms in
       let numbers = subst (λ f. Numbers f filters) e isNumbers in
       record {
         planes = record {
-          picture = record { grid = given .grid; sizes = given .sizes; ctbSize = given .ctbSize; depth = given .depth };
+          picture = given .picture;
           chromaLength = given .chromaLength refl;
           outputLength = rooms .outputLength;
           chromaSamples = given .chroma refl;

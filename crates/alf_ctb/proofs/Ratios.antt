@@ -12,7 +12,7 @@ use Rattle.alf_taps.specs.Spread.{TapNumbers}
 use Rattle.alf_ctb.specs.declared.Filter.{Filter}
 use Rattle.alf_ctb.specs.declared.Filter.the-variants.{Luma, Chroma, CrossComponent}
 use Rattle.alf_ctb.specs.Filters.{columnRatio, rowRatio, walkLine}
-use Rattle.alf_ctb.specs.Work.{Rooms}
+use Rattle.alf_ctb.specs.FilterWork.{FilterRooms}
 
 pub filter-ratios : (f : Filter) (p : Picture) → Ratio (columnRatio f p) × Ratio (rowRatio f p)
 filter-ratios Luma p = (whole, whole)
@@ -27,8 +27,8 @@ walks (CrossComponent component) = walk-luma
 
 -- lists of the same lengths
 pub rooms-same : {f : Filter} {p : Picture} {copy copy′ differences differences′ output output′ : ℕ} {taps taps′ : List ℤ}
-    → Rooms f p copy differences taps output → copy′ ≡ copy → differences′ ≡ differences → TapNumbers taps′ → output′ ≡ output
-    → Rooms f p copy′ differences′ taps′ output′
+    → FilterRooms f p copy differences taps output → copy′ ≡ copy → differences′ ≡ differences → TapNumbers taps′ → output′ ≡ output
+    → FilterRooms f p copy′ differences′ taps′ output′
 rooms-same rooms c d taps o = record {
   copyRoom = rw c (rooms .copyRoom);
   differenceRoom = rw d (rooms .differenceRoom);

@@ -14,7 +14,7 @@ use Rattle.alf_params.specs.Tables.{TablesGiven, FixedOf}
 use Rattle.alf_ctb.specs.declared.Filter.{Filter}
 use Rattle.alf_ctb.specs.declared.Filter.the-variants.{Luma, Chroma, CrossComponent}
 use Rattle.alf_ctb.specs.Filters.{OwnFilter}
-use Rattle.alf_ctb.specs.Work.{Numbers}
+use Rattle.alf_ctb.specs.FilterWork.{Numbers}
 use Rattle.alf_ctb.specs.Tables.{FixedSame}
 
 -- the numbers that stand in a list are those of the CTB's filter

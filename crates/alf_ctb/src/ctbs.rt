@@ -3,19 +3,20 @@ ghost use mathlib.Core.Path.{_≡_};
 ghost use mathlib.Core.Bool.{true};
 ghost use Prim.Native.Nat.{_+_, _*_, _≤_, _<_, min};
 ghost use lib.ListN.{length};
-ghost use Rattle.alf_spec.specs.Geometry.{ctbSize, axisOf};
+ghost use Rattle.alf_spec.specs.Geometry.{ctbSize};
 ghost use Rattle.alf_spec.specs.Faults.{virtualListValid};
-ghost use Rattle.alf_math.specs.Grids.{GridOf};
-ghost use Rattle.alf_pieces.specs.Pieces.{pieceAt, either, BlockPiece};
+ghost use Rattle.alf_pieces.specs.Pieces.{BlockPiece};
 ghost use Rattle.alf_taps.specs.Spread.{TapNumbers};
 ghost use Rattle.alf_ctb.specs.Filters.{walkLine};
-ghost use Rattle.alf_ctb.specs.Work.{Given, Rooms, Numbers, ColumnsFiltered, RowsFiltered};
+ghost use Rattle.alf_ctb.specs.FilterWork.{FilterInput, FilterRooms, Numbers, ColumnsFiltered, RowsFiltered};
 use crate::Filter;
 use crate::pieces::filter_piece;
+use alf_boundary::clips::column_axis;
+use alf_boundary::clips::ctb_start;
+use alf_boundary::clips::row_axis;
 use alf_pieces::pieces::Piece;
-use alf_pieces::pieces::column_piece;
 use alf_pieces::pieces::ctb_limit;
-use alf_pieces::pieces::row_piece;
+use alf_pieces::pieces::piece_at;
 use alf_spec::Ctb;
 use alf_spec::Grid;
 use alf_spec::Picture;
@@ -39,8 +40,8 @@ fn filter_strip(
     taps: &mut [i16],
     output: &mut [u16],
 )
-    requires { ⌜ (Given filter picture grid (now luma) (now chroma) (now places)) × (Numbers filter (now filters))
-        × (Rooms filter picture (length (now copy)) (length (now differences)) (now taps) (length (now output)))
+    requires { ⌜ (FilterInput filter picture grid (now luma) (now chroma) (now places)) × (Numbers filter (now filters))
+        × (FilterRooms filter picture (length (now copy)) (length (now differences)) (now taps) (length (now output)))
         × (virtualListValid (picture .width) (ctbSize picture) (now «virtual_columns») ≡ true)
         × (BlockPiece (picture .height) rows) × (ctb .column * grid .ctb < picture .width) ⌝ }
     ensures { λ _. ⌜ (ColumnsFiltered filter picture grid (now («virtual_columns» .entry)) ctb sides rows (now (luma .entry))
@@ -48,11 +49,11 @@ fn filter_strip(
         (now (filters .entry)) (min (ctb .column * grid .ctb + grid .ctb) (picture .width)) (now (output .entry)) (now (output .exit)))
         × (TapNumbers (now (taps .exit))) ⌝ }
 {
-    let left = ctb.column * grid.ctb;
-    let right = ctb_limit(picture.width, grid.ctb, ctb.column);
-    let mut x = left;
+    let axis = column_axis(picture, grid, sides, ctb.column);
+    let right = ctb_limit(axis);
+    let mut x = ctb_start(axis);
     while x < right {
-        let columns = column_piece(picture, grid, virtual_columns, 1, sides, ctb.column, x);
+        let columns = piece_at(axis, virtual_columns, x);
         filter_piece(
             filter,
             picture,
@@ -73,25 +74,15 @@ fn filter_strip(
     }
 }
 
-// The piece that begins at luma row y of the CTB row q. It ends at the line, but for chroma: no tap of the chroma filter reads across its
-// own.
-fn strip_rows(
-    filter: Filter,
-    picture: Picture,
-    grid: Grid,
-    virtual_rows: &[u16],
-    sides: Sides,
-    q: u32,
-    y: u32,
-) -> Piece
-    requires { ⌜ (GridOf picture grid) × (q ≤ 128) × (y ≤ 4096) × (q * grid .ctb ≤ y) ⌝ }
-    ensures { λ r. ⌜ r ≡ pieceAt (axisOf (picture .height) (grid .ctb) (now («virtual_rows» .entry)) (walkLine filter) 1)
-        (either (sides .top) (sides .bottom)) q y ⌝ }
+// How far above a CTB's bottom the line lies at which its pieces end, in luma rows. For chroma they go on over it: no tap of the chroma
+// filter reads across its own line.
+fn walk_line(filter: Filter) -> u32
+    ensures { λ r. ⌜ r ≡ walkLine filter ⌝ }
 {
     match filter {
-        Filter::Luma => row_piece(picture, grid, 4, virtual_rows, 1, sides, q, y),
-        Filter::Chroma(_) => row_piece(picture, grid, 0, virtual_rows, 1, sides, q, y),
-        Filter::CrossComponent(_) => row_piece(picture, grid, 4, virtual_rows, 1, sides, q, y),
+        Filter::Luma => 4,
+        Filter::Chroma(_) => 0,
+        Filter::CrossComponent(_) => 4,
     }
 }
 
@@ -113,8 +104,8 @@ pub fn filter_ctb(
     taps: &mut [i16],
     output: &mut [u16],
 )
-    requires { ⌜ (Given filter picture grid (now luma) (now chroma) (now places)) × (Numbers filter (now filters))
-        × (Rooms filter picture (length (now copy)) (length (now differences)) (now taps) (length (now output)))
+    requires { ⌜ (FilterInput filter picture grid (now luma) (now chroma) (now places)) × (Numbers filter (now filters))
+        × (FilterRooms filter picture (length (now copy)) (length (now differences)) (now taps) (length (now output)))
         × (virtualListValid (picture .width) (ctbSize picture) (now «virtual_columns») ≡ true)
         × (virtualListValid (picture .height) (ctbSize picture) (now «virtual_rows») ≡ true)
         × (ctb .column * grid .ctb < picture .width) × (ctb .row * grid .ctb < picture .height) ⌝ }
@@ -123,11 +114,11 @@ pub fn filter_ctb(
         (now (chroma .entry)) (now (filters .entry)) (min (ctb .row * grid .ctb + grid .ctb) (picture .height)) (now (output .entry))
         (now (output .exit))) × (TapNumbers (now (taps .exit))) ⌝ }
 {
-    let top = ctb.row * grid.ctb;
-    let bottom = ctb_limit(picture.height, grid.ctb, ctb.row);
-    let mut y = top;
+    let axis = row_axis(picture, grid, sides, walk_line(filter), ctb.row);
+    let bottom = ctb_limit(axis);
+    let mut y = ctb_start(axis);
     while y < bottom {
-        let rows = strip_rows(filter, picture, grid, virtual_rows, sides, ctb.row, y);
+        let rows = piece_at(axis, virtual_rows, y);
         filter_strip(
             filter,
             picture,

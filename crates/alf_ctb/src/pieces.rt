@@ -2,7 +2,7 @@
 ghost use lib.ListN.{length};
 ghost use Rattle.alf_pieces.specs.Pieces.{BlockPiece};
 ghost use Rattle.alf_taps.specs.Spread.{TapNumbers};
-ghost use Rattle.alf_ctb.specs.Work.{Given, Rooms, Numbers, PieceFiltered};
+ghost use Rattle.alf_ctb.specs.FilterWork.{FilterInput, FilterRooms, Numbers, PieceFiltered};
 use crate::Filter;
 use alf_math::grid::sub_height;
 use alf_math::grid::sub_width;
@@ -30,8 +30,8 @@ pub fn filter_piece(
     taps: &mut [i16],
     output: &mut [u16],
 )
-    requires { ⌜ (Given filter picture grid (now luma) (now chroma) (now places)) × (Numbers filter (now filters))
-        × (Rooms filter picture (length (now copy)) (length (now differences)) (now taps) (length (now output)))
+    requires { ⌜ (FilterInput filter picture grid (now luma) (now chroma) (now places)) × (Numbers filter (now filters))
+        × (FilterRooms filter picture (length (now copy)) (length (now differences)) (now taps) (length (now output)))
         × (BlockPiece (picture .width) columns) × (BlockPiece (picture .height) rows) ⌝ }
     ensures { λ _. ⌜ (PieceFiltered filter picture sides columns rows (now (luma .entry)) (now (chroma .entry)) (now (filters .entry))
         (now (output .entry)) (now (output .exit))) × (TapNumbers (now (taps .exit))) ⌝ }

@@ -8,7 +8,7 @@ ghost use Rattle.alf_spec.specs.Geometry.{address};
 ghost use Rattle.alf_spec.specs.declared.Ctb.{Ctb};
 ghost use Rattle.alf_params.specs.Tables.{CtbTables, TablesGiven};
 ghost use Rattle.alf_ctb.specs.Filters.{isOn, OwnFilter};
-ghost use Rattle.alf_ctb.specs.Work.{Numbers};
+ghost use Rattle.alf_ctb.specs.FilterWork.{Numbers};
 ghost use Rattle.alf_ctb.specs.Tables.{ComponentOf, FixedGiven, FixedSame, Switched};
 use crate::Filter;
 use alf_params::chroma_on;

@@ -102,10 +102,7 @@ tables-accepted f i ok grid order =
     let lists = lists-valid (i .layout) (layout .virtualBoundaries) in
     record {
       planes = record {
-        grid = grid;
-        sizes = layout .sizes;
-        ctbSize = layout .ctbSize;
-        depth = layout .bitDepth;
+        picture = record { grid = grid; sizes = layout .sizes; ctbSize = layout .ctbSize; depth = layout .bitDepth };
         lumaLength = λ e. simp div-one at (luma-length op i ok e);
         chromaLength = chroma-length op i ok;
         luma = λ e k. sample-bound (i .layout .picture) (layout .bitDepth) (luma-samples op i ok e k);

@@ -13,7 +13,7 @@ use Rattle.alf_params.specs.Tables.{CtbTables}
 use Rattle.alf_ctb.specs.declared.Filter.{Filter}
 use Rattle.alf_ctb.specs.Filters.{operationOf}
 use Rattle.alf_ctb.specs.Tables.{ComponentOf, FixedGiven}
-use Rattle.alf_ctb.specs.Work.{Given}
+use Rattle.alf_ctb.specs.FilterWork.{FilterInput}
 
 -- the picture and its grid, its virtual boundaries, the tables of its filters, its planes, and the tap orders
 pub record FilterTables : Type 0 where
@@ -52,7 +52,7 @@ tablesOf picture grid virtualColumns virtualRows sliceMap sliceParams bank ctbPa
 
 -- what judging makes sure of
 pub record TablesAccepted (f : Filter) (t : FilterTables) : Type 0 where
-  pub planes : Given f (t .picture) (t .grid) (t .luma) (t .chroma) (t .places)
+  pub planes : FilterInput f (t .picture) (t .grid) (t .luma) (t .chroma) (t .places)
   pub virtualColumns : virtualListValid (t .picture .width) (ctbSize (t .picture)) (t .virtualColumns) ≡ true
   pub virtualRows : virtualListValid (t .picture .height) (ctbSize (t .picture)) (t .virtualRows) ≡ true
   pub component : ComponentOf f

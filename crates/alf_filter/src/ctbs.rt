@@ -7,7 +7,7 @@ ghost use Rattle.alf_spec.specs.Input.{Input};
 ghost use Rattle.alf_taps.specs.Spread.{TapNumbers};
 ghost use Rattle.alf_sides.specs.Planned.{SidesPlanned};
 ghost use Rattle.alf_ctb.specs.Filters.{columnRatio, rowRatio};
-ghost use Rattle.alf_ctb.specs.Work.{Rooms};
+ghost use Rattle.alf_ctb.specs.FilterWork.{FilterRooms};
 ghost use Rattle.alf_filter.specs.FilterTables.{FilterTables, tablesOf, TablesAccepted, TablesIn};
 ghost use Rattle.alf_filter.specs.FilteredCtbs.{MarksOn, CtbFiltered, MarkedFiltered};
 use alf_classify::AREA;
@@ -49,7 +49,7 @@ fn filter_address(
         (now «ctb_params») (now «fixed_filters») (now «fixed_map») (now luma) (now chroma) (now places) ≡ t ⌝ }
     requires { λ t. ⌜ (TablesAccepted filter t) × (k < grid .columns * grid .rows) × (k < length (now sides)) × (k < length (now marks))
         × (MarksOn filter (now «ctb_params») (now marks))
-        × (Rooms filter picture (length (now copy)) (length (now differences)) (now taps) (length (now output))) ⌝ }
+        × (FilterRooms filter picture (length (now copy)) (length (now differences)) (now taps) (length (now output))) ⌝ }
     ensures { λ t _. ⌜ ((i : Input) → TablesIn filter i t → SidesPlanned (i .layout) (now (sides .entry))
         → CtbFiltered filter i (now (marks .entry)) k (now (output .entry)) (now (output .exit))) × (TapNumbers (now (taps .exit))) ⌝ }
 {

@@ -1,17 +1,16 @@
 // The causes on the four sides of a luma sample, by the rule that the pieces of a CTB are found by.
 ghost use mathlib.Core.Path.{_≡_};
 ghost use mathlib.Core.Bool.{true};
-ghost use Prim.Native.Nat.{ℕ};
-ghost use Rattle.alf_spec.specs.declared.ClipCause.{ClipCause};
 ghost use Rattle.alf_spec.specs.Input.{layoutOf};
-ghost use Rattle.alf_spec.specs.Geometry.{Side, before, after, axisOf};
 ghost use Rattle.alf_spec.specs.Boundary.{clip, causeOf};
 ghost use Rattle.alf_spec.specs.Faults.{causesFault};
 ghost use Rattle.alf_spec.specs.Causes.{causesAt};
-ghost use Rattle.alf_boundary.specs.Clips.{InCtb};
+ghost use Rattle.alf_boundary.specs.Clips.{sideOf, axisAlong, sidesAlong, InCtb};
+use alf_boundary::clips::CtbAxis;
 use alf_boundary::clips::cause_of;
-use alf_boundary::clips::clip_after;
-use alf_boundary::clips::clip_before;
+use alf_boundary::clips::column_axis;
+use alf_boundary::clips::find_clip;
+use alf_boundary::clips::row_axis;
 use alf_boundary::sides::sides_of;
 use alf_math::grid::grid;
 use alf_spec::ClipCause;
@@ -19,36 +18,12 @@ use alf_spec::Ctb;
 use alf_spec::Picture;
 use alf_spec::SideCauses;
 
-// The cause left of x or above it.
-fn cause_before(
-    start: u32,
-    ctb: u32,
-    line: u32,
-    boundaries: &[u16],
-    side: ClipCause,
-    x: u32,
-) -> ClipCause
-    requires { ⌜ InCtb start ctb line x ⌝ }
-    ensures { λ r. ⌜ ((size ratio : ℕ) (sides : Side → ClipCause) → sides before ≡ side
-        → r ≡ causeOf (clip (axisOf size ctb (now (boundaries .entry)) line ratio) x sides before)) ⌝ }
+// The cause on one side of x, a position of the axis's CTB.
+fn cause_at(axis: CtbAxis, boundaries: &[u16], after: bool, x: u32) -> ClipCause
+    requires { ⌜ InCtb axis x ⌝ }
+    ensures { λ r. ⌜ r ≡ causeOf (clip (axisAlong axis (now (boundaries .entry)) 1) x (sidesAlong axis) (sideOf after)) ⌝ }
 {
-    cause_of(clip_before(start, ctb, line, boundaries, side, x))
-}
-
-// The cause right of x or below it.
-fn cause_after(
-    start: u32,
-    ctb: u32,
-    line: u32,
-    boundaries: &[u16],
-    side: ClipCause,
-    x: u32,
-) -> ClipCause
-    requires { ⌜ InCtb start ctb line x ⌝ }
-    ensures { λ r. ⌜ ((size ratio : ℕ) (sides : Side → ClipCause) → sides after ≡ side
-        → r ≡ causeOf (clip (axisOf size ctb (now (boundaries .entry)) line ratio) x sides after)) ⌝ }
-{
-    cause_of(clip_after(start, ctb, line, boundaries, side, x))
+    cause_of(find_clip(axis, boundaries, after, x))
 }
 
 // The four causes; the layout and the position are accepted already. The line lies 4 rows above a CTB's bottom; columns have none.
@@ -85,16 +60,12 @@ pub fn causes_at(
         subpic_across,
         ctb,
     );
-    let top = sides.top;
-    let bottom = sides.bottom;
-    let left = sides.left;
-    let right = sides.right;
-    let first_column = ctb.column * grid.ctb;
-    let first_row = ctb.row * grid.ctb;
+    let columns = column_axis(picture, grid, sides, ctb.column);
+    let rows = row_axis(picture, grid, sides, 4, ctb.row);
     SideCauses {
-        top: cause_before(first_row, grid.ctb, 4, virtual_rows, top, y),
-        bottom: cause_after(first_row, grid.ctb, 4, virtual_rows, bottom, y),
-        left: cause_before(first_column, grid.ctb, 0, virtual_columns, left, x),
-        right: cause_after(first_column, grid.ctb, 0, virtual_columns, right, x),
+        top: cause_at(rows, virtual_rows, false, y),
+        bottom: cause_at(rows, virtual_rows, true, y),
+        left: cause_at(columns, virtual_columns, false, x),
+        right: cause_at(columns, virtual_columns, true, x),
     }
 }

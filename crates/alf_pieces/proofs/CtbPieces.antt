@@ -16,9 +16,10 @@ use Rattle.alf_spec.proofs.Axes.{Regular, regular}
 use Rattle.alf_spec.proofs.Ratios.{Ratio}
 use Rattle.alf_math.specs.Grids.{GridOf}
 use Rattle.alf_math.proofs.Grids.{ctb-bounds}
+use Rattle.alf_boundary.specs.Clips.{columnAxis, rowAxis, axisAlong, sidesAlong}
 use Rattle.alf_boundary.specs.Tables.{SidesOf}
 use Rattle.alf_pieces.specs.declared.pieces.Piece.{Piece}
-use Rattle.alf_pieces.specs.Pieces.{either, WalkLine, PieceOf, CtbOf}
+use Rattle.alf_pieces.specs.Pieces.{WalkLine, PieceOf, CtbOf}
 use Rattle.alf_pieces.proofs.PieceFacts.{Facts, piece-facts}
 use Rattle.alf_pieces.proofs.PieceWalk.{walk-none, same-piece}
 
@@ -70,14 +71,14 @@ module _ {l : Layout} {p : Picture} {c : Ctb} {s : Sides} (ctb : CtbOf l p c s) 
 
     -- a piece that code finds is the layout's
     module _ {g : Grid} (grid : GridOf p g) where
-      pub column-piece : {list : List ℕ} {columns : Piece} → l .virtualColumns ≡ list
-          → PieceOf (axisOf (p .width) (g .ctb) list 0 columnRatio) (either (s .left) (s .right)) (c .column) columns
+      pub column-piece : {list : List ℕ} {columns : Piece} → l .virtualColumns ≡ list → let a = columnAxis p g s (c .column) in
+          PieceOf (axisAlong a list columnRatio) (sidesAlong a) (c .column) columns
           → PieceOf (planeOf l columnRatio rowRatio line .columns) (columnSide l c) (c .column) columns
       unfolding planeOf
       column-piece e h = same-piece (rw (grid .ctb, ctb .picture, e)) (ctb .sides .left) (ctb .sides .right) h
 
-      pub row-piece : {list : List ℕ} {rows : Piece} → l .virtualRows ≡ list
-          → PieceOf (axisOf (p .height) (g .ctb) list line rowRatio) (either (s .top) (s .bottom)) (c .row) rows
+      pub row-piece : {list : List ℕ} {rows : Piece} → l .virtualRows ≡ list → let a = rowAxis p g s line (c .row) in
+          PieceOf (axisAlong a list rowRatio) (sidesAlong a) (c .row) rows
           → PieceOf (planeOf l columnRatio rowRatio line .rows) (rowSide l c) (c .row) rows
       unfolding planeOf
       row-piece e h = same-piece (rw (grid .ctb, ctb .picture, e)) (ctb .sides .top) (ctb .sides .bottom) h

@@ -82,12 +82,12 @@ module _ (a : Axis) (ok : Regular a) (walk : WalkLine (a .line)) (q x : ℕ) (lo
   inner4 b (inl l) = omega (arith, l .1, side4, ok .ctb8, ok .big, walk .0, walk .1)
   inner4 b (inr m) = let b8 = ok .virtual8 b m in omega arith
 
-  begins4 : (b : ℕ) → Begins a q b → b % 4 ≡ 0
+  pub begins4 : (b : ℕ) → Begins a q b → b % 4 ≡ 0
   begins4 b (at-side e) = omega (arith, side4)
   begins4 b (at-boundary e) = inner4 b (inr (elem-mem b (a .virtualBoundaries) e))
   begins4 b (at-line l e) = inner4 b (inl (l, e))
 
-  limit4 : ctbLimit a q % 4 ≡ 0
+  pub limit4 : ctbLimit a q % 4 ≡ 0
   limit4 = omega (arith, side4, ok .ctb8, ok .size8)
 
 -- ---- the run of blocks from x on

@@ -1,63 +1,78 @@
 -- How a loop over the blocks of a CTB finds where a piece ends. Assumes nothing.
-use mathlib.Core.Path.{_≡_, refl, sym, ap, _∙_}
+use mathlib.Core.Path.{_≡_, refl, sym, _∙_}
 use mathlib.Core.Bool.{Bool, true, false, cond}
 use mathlib.Core.List.{List}
-use Prim.Native.Nat.{ℕ, suc, _+_, _-_, _*_, _/_, _≤_, _<_, min}
-use native.Mathlib.Nat.{div-eq-of-lt-le}
+use mathlib.Core.Option.{Option, some, none, Option·getD}
+use Prim.Native.Nat.{ℕ, suc, _+_, _-_, _*_, _/_, _≤_, _<_}
+use native.Mathlib.Nat.{div-one, div-eq-of-lt-le}
 use native.Mathlib.Omega.{arith}
-use Rattle.alf_spec.specs.declared.ClipCause.{ClipCause}
-use Rattle.alf_spec.specs.Geometry.{Side, after, Axis, axisOf}
+use Rattle.alf_spec.specs.Geometry.{after}
 use Rattle.alf_spec.specs.Boundary.{clip, clipPosition}
-use Rattle.alf_spec.specs.Padding.{isNone}
+use Rattle.alf_spec.specs.Padding.{isNone, lowest, limit}
+use Rattle.alf_boundary.specs.declared.clips.CtbAxis.{CtbAxis}
 use Rattle.alf_boundary.specs.declared.clips.FoundClip.{FoundClip}
-use Rattle.alf_boundary.specs.Clips.{clipOf, positionOf}
-use Rattle.alf_pieces.specs.Pieces.{runEnd, pieceEnd}
+use Rattle.alf_boundary.specs.Clips.{clipOf, positionOf, axisAlong, sidesAlong, InCtb}
+use Rattle.alf_pieces.specs.Pieces.{limitAlong, BlockAt, runEnd, pieceEnd}
 
--- the CTB at place q, in which the block from `end` on lies, is that of its last sample
-pub block-start : (ctb q end : ℕ) → q * ctb ≤ end → end + 4 ≤ q * ctb + ctb → q * ctb ≡ (end + 3) / ctb * ctb
-block-start ctb q end low high =
-    let low′ : q * ctb ≤ end + 3 = omega arith in
-    let place : (end + 3) / ctb ≡ q = div-eq-of-lt-le ctb low′ (omega arith) in
-    ap (λ (p : ℕ). p * ctb) (sym place)
+-- a position of the CTB, from the block on
+pub in-ctb : {a : CtbAxis} {x : ℕ} (u : ℕ) → BlockAt a x → x ≤ u → u < limitAlong a → InCtb a u
+in-ctb {a} u b low high =
+    let from : a .place * a .ctb ≤ u = omega (arith, b .from) in
+    record {
+      low = b .low;
+      high = b .high;
+      line = b .line;
+      small = omega (arith, b .size);
+      place = sym (div-eq-of-lt-le (a .ctb) from (omega arith));
+    }
 
--- for every plane, and whatever the side before is
-abbrev Each : ℕ → ℕ → ℕ → List ℕ → ClipCause → (Axis → (Side → ClipCause) → Type 0) → Type 0
-Each size ctb line boundaries side P = (ratio : ℕ) (sides : Side → ClipCause) → sides after ≡ side
-    → P (axisOf size ctb boundaries line ratio) sides
+-- what reads are clamped to in the luma plane: the clip positions, or the plane's ends
+module _ (a : CtbAxis) (list : List ℕ) where
+  pub lowest-luma : (o : Option ℕ) → lowest (axisAlong a list 1) o ≡ Option·getD o 0
+  lowest-luma none = refl
+  lowest-luma (some e) = div-one e
 
--- the blocks from `end` on are ahead of the loop that began at x, in the CTB at place q
-pub record Scanned (size ctb line : ℕ) (boundaries : List ℕ) (side : ClipCause) (q x end : ℕ) : Type 0 where
-  pub small : end ≤ 65535
-  pub rest : Each size ctb line boundaries side
-      (λ a sides. pieceEnd a sides q x ≡ runEnd a sides ((min (q * ctb + ctb) size - end) / 4) end)
+  pub limit-luma : (o : Option ℕ) → limit (axisAlong a list 1) o ≡ Option·getD o (a .size)
+  limit-luma none = div-one (a .size)
+  limit-luma (some e) = div-one e
 
-pub scan-start : (size ctb line : ℕ) (boundaries : List ℕ) (side : ClipCause) (q x : ℕ) → x ≤ 65535
-    → Scanned size ctb line boundaries side q x x
+module _ (a : CtbAxis) (list : List ℕ) where
+  -- where the blocks from `end` on lead, of which there are that many in the CTB
+  abbrev pub runFrom : ℕ → ℕ
+  runFrom end = runEnd (axisAlong a list 1) (sidesAlong a) ((limitAlong a - end) / 4) end
+
+  -- where the piece that begins at x ends
+  abbrev pub endFrom : ℕ → ℕ
+  endFrom x = pieceEnd (axisAlong a list 1) (sidesAlong a) (a .place) x
+
+-- the blocks from `end` on are ahead of the loop that began at x
+pub record Scanned (a : CtbAxis) (list : List ℕ) (x end : ℕ) : Type 0 where
+  pub from : x ≤ end
+  pub upto : end ≤ limitAlong a
+  pub rest : endFrom a list x ≡ runFrom a list end
+
+pub scan-start : {a : CtbAxis} {list : List ℕ} {x : ℕ} → BlockAt a x → Scanned a list x x
 unfolding pieceEnd
-scan-start size ctb line boundaries side q x h = record { small = h; rest = λ ratio sides e. refl }
+scan-start b = record { from = omega arith; upto = omega (arith, b .upto); rest = refl }
 
-module _ {size ctb line : ℕ} {boundaries : List ℕ} {side : ClipCause} {q x end : ℕ}
-    (s : Scanned size ctb line boundaries side q x end) where
+module _ {a : CtbAxis} {list : List ℕ} {x end : ℕ} (s : Scanned a list x end) where
   -- no whole block is left
-  pub scan-done : min (q * ctb + ctb) size < end + 4 → Each size ctb line boundaries side (λ a sides. end ≡ pieceEnd a sides q x)
+  pub scan-done : limitAlong a < end + 4 → end ≡ endFrom a list x
   unfolding runEnd
-  scan-done h ratio sides e =
-      let none-left : (min (q * ctb + ctb) size - end) / 4 ≡ 0 = omega arith in
-      sym (s .rest ratio sides e ∙ rw none-left)
+  scan-done h = let none-left : (limitAlong a - end) / 4 ≡ 0 = omega arith in sym (s .rest ∙ rw none-left)
 
   -- a block, and what stands after its last sample
-  module _ (h : end + 4 ≤ min (q * ctb + ctb) size) (after-last : FoundClip)
-      (found : Each size ctb line boundaries side (λ a sides. clipOf after-last ≡ clip a (end + 3) sides after)) {t : Bool}
+  module _ (h : end + 4 ≤ limitAlong a) (after-last : FoundClip)
+      (found : clipOf after-last ≡ clip (axisAlong a list 1) (end + 3) (sidesAlong a) after) {t : Bool}
       (opens : t ≡ isNone (positionOf after-last)) where
-    block : Each size ctb line boundaries side (λ a sides.
-        pieceEnd a sides q x ≡ cond t (runEnd a sides ((min (q * ctb + ctb) size - (end + 4)) / 4) (end + 4)) (end + 4))
+    block : endFrom a list x ≡ cond t (runFrom a list (end + 4)) (end + 4)
     unfolding runEnd clipPosition
-    block ratio sides e =
-        let one-more : (min (q * ctb + ctb) size - end) / 4 ≡ suc ((min (q * ctb + ctb) size - (end + 4)) / 4) = omega arith in
-        s .rest ratio sides e ∙ rw (one-more, ← found ratio sides e, ← opens)
+    block =
+        let one-more : (limitAlong a - end) / 4 ≡ suc ((limitAlong a - (end + 4)) / 4) = omega arith in
+        s .rest ∙ rw (one-more, ← found, ← opens)
 
-    pub scan-on : t ≡ true → end + 4 ≤ 65535 → Scanned size ctb line boundaries side q x (end + 4)
-    scan-on on small = record { small = small; rest = λ ratio sides e. block ratio sides e ∙ rw on }
+    pub scan-on : t ≡ true → Scanned a list x (end + 4)
+    scan-on on = record { from = omega (arith, s .from); upto = h; rest = block ∙ rw on }
 
-    pub scan-stop : t ≡ false → Each size ctb line boundaries side (λ a sides. end + 4 ≡ pieceEnd a sides q x)
-    scan-stop off ratio sides e = sym (block ratio sides e ∙ rw off)
+    pub scan-stop : t ≡ false → end + 4 ≡ endFrom a list x
+    scan-stop off = sym (block ∙ rw off)

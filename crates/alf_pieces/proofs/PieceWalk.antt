@@ -1,81 +1,36 @@
--- A loop over the pieces of a CTB along one axis, for every plane: where it stands, and how each piece carries it on. Assumes nothing.
-use mathlib.Core.Path.{_≡_, refl, ap, subst}
-use mathlib.Core.Bool.{true}
+-- A loop over the pieces of a CTB along one axis: where it stands, how each piece carries it on, and how the part of a plane grows that it
+-- has written. Assumes nothing.
+use mathlib.Core.Path.{_≡_, refl, sym, ap, _∙_, subst}
+use mathlib.Core.Logic.{inl, inr}
+use mathlib.Core.Bool.{Bool, true, false, _||_}
 use mathlib.Core.List.{List}
-use Prim.Native.Nat.{ℕ, _-_, _*_, _/_, _≤_, _<_}
-use native.Mathlib.Nat.{le-antisymm, mul-le-mul-right}
+use Prim.Native.Nat.{ℕ, zero, suc, _-_, _*_, _/_, _≤_, _<_}
+use native.Mathlib.Nat.{mul-one, div-zero, div-mul-le-self, le-div-iff-mul-le}
 use native.Mathlib.Omega.{arith}
 use Rattle.alf_spec.specs.declared.ClipCause.{ClipCause}
 use Rattle.alf_spec.specs.declared.Picture.{Picture}
 use Rattle.alf_spec.specs.declared.Grid.{Grid}
-use Rattle.alf_spec.specs.Geometry.{Side, before, after, Axis, ctbSize, lumaPosition, axisOf}
-use Rattle.alf_spec.specs.Faults.{pictureSizeValid, ctbSizeValid, virtualListValid}
+use Rattle.alf_spec.specs.declared.Sides.{Sides}
+use Rattle.alf_spec.specs.Lists.{painted}
+use Rattle.alf_spec.specs.Geometry.{Side, before, after, Axis, ctbSize, axisOf}
+use Rattle.alf_spec.specs.Faults.{sizeValid, virtualListValid}
 use Rattle.alf_spec.proofs.Accepted.{sizes-valid}
 use Rattle.alf_spec.proofs.Axes.{Regular, regular}
-use Rattle.alf_spec.proofs.Ratios.{Ratio, whole, half, lt-own}
-use Rattle.alf_math.specs.Grids.{GridOf}
+use Rattle.alf_spec.proofs.Ratios.{whole}
+use Rattle.alf_math.specs.Grids.{AcceptedPicture}
+use Rattle.alf_math.proofs.Grids.{width-bounds, height-bounds}
+use Rattle.alf_boundary.specs.declared.clips.CtbAxis.{CtbAxis}
+use Rattle.alf_boundary.specs.Clips.{columnAxis, rowAxis, axisAlong, sidesAlong}
+use Rattle.alf_boundary.proofs.ClipRules.{sides-same}
+use Rattle.alf_lists.specs.Regions.{inRect}
+use Rattle.alf_lists.proofs.Painted.{Paint, paint-none, paint-call}
+use Rattle.alf_lists.proofs.Regions.{rect-none, rect-beside, rect-stacked}
 use Rattle.alf_pieces.specs.declared.pieces.Piece.{Piece}
-use Rattle.alf_pieces.specs.Pieces.{WalkLine, ctbLimit, pieceAt, Begins, at-side, PieceOf, BlockPiece}
+use Rattle.alf_pieces.specs.Pieces.{WalkLine, limitAlong, BlockAt, pieceAt, Begins, at-side, PieceOf, BlockPiece}
+use Rattle.alf_pieces.proofs.PieceEnds.{begins4, limit4}
 use Rattle.alf_pieces.proofs.PieceFacts.{Facts, piece-facts}
 
--- ---- the loop
-
--- the loop over the pieces of the CTB at place q stands at the plane's own sample x: where a piece begins, or where the CTB ends
-pub record Walk (a : Axis) (q x : ℕ) : Type 0 where
-  pub from : q * a .ctb ≤ lumaPosition a x
-  pub upto : lumaPosition a x ≤ ctbLimit a q
-  pub begins : lumaPosition a x < ctbLimit a q → Begins a q (lumaPosition a x)
-
-module _ {a : Axis} {q : ℕ} where
-  pub walk-start : {x : ℕ} → lumaPosition a x ≡ q * a .ctb → q * a .ctb < a .size → Walk a q x
-  walk-start e h = record { from = omega arith; upto = omega arith; begins = λ _. at-side e }
-
-  -- where a piece ends
-  pub walk-next : {side : Side → ClipCause} {p : Piece} → Facts a side q p → Walk a q (p .end)
-  walk-next {p = p} f =
-      let on : lumaPosition a (p .start) ≤ lumaPosition a (p .end) = mul-le-mul-right (a .ratio) (omega (arith, f .numbers .filled)) in
-      record { from = omega (arith, f .from); upto = f .upto; begins = f .next }
-
--- where the CTB ends, the loop does
-pub walk-done : {a : Axis} {q x : ℕ} → Ratio (a .ratio) → Walk a q x → ctbLimit a q / a .ratio ≤ x → x ≡ ctbLimit a q / a .ratio
-walk-done {a} {q} {x} ratio w h = le-antisymm (own (a .ratio) ratio (ctbLimit a q) (w .upto)) h
-  where
-    own : (r : ℕ) → Ratio r → (b : ℕ) → x * r ≤ b → x ≤ b / r
-    own _ whole b l = omega arith
-    own _ half b l = omega arith
-
--- what a turn of the loop finds: the piece p that begins at x
-pub record Turn (a : Axis) (side : Side → ClipCause) (q x : ℕ) (p : Piece) : Type 0 where
-  pub start : p .start ≡ x
-  pub piece : PieceOf a side q p
-  pub facts : Facts a side q p
-
-pub turn : {a : Axis} {side : Side → ClipCause} {q x : ℕ} {p : Piece} → Regular a → Ratio (a .ratio) → WalkLine (a .line) → a .ctb ≤ 128
-    → Walk a q x → x < ctbLimit a q / a .ratio → p ≡ pieceAt a side q x → Turn a side q x p
-unfolding pieceAt
-turn {a} {side} {q} {x} {p} ok ratio walk small w h e =
-    let piece : PieceOf a side q p =
-    rw e record {
-      from = w .from;
-      upto = lt-own (a .ratio) (ctbLimit a q) x h;
-      begins =
-          w .begins (lt-own (a .ratio) (ctbLimit a q) x h);
-      is = refl;
-    } in
-    record { start = ap (λ (p : Piece). p .start) e; piece = piece; facts = piece-facts a ok walk ratio small side q p piece }
-
--- the loop's measure
-pub turn-less : {a : Axis} {side : Side → ClipCause} {q x end : ℕ} {p : Piece} → Turn a side q x p → x < end → end - p .end < end - x
-turn-less t h = omega (arith, t .start, t .facts .numbers .filled)
-
--- in the luma plane, a piece of whole blocks
-pub block-piece : {n ctb : ℕ} {list : List ℕ} {line : ℕ} {side : Side → ClipCause} {q : ℕ} {p : Piece}
-    → Facts (axisOf n ctb list line 1) side q p → BlockPiece n p
-block-piece {n = n} {p = p} f =
-    let own : n / 1 ≡ n = omega arith in
-    record { numbers = rw own at (f .numbers); start4 = omega (arith, f .start4); end4 = omega (arith, f .end4) }
-
--- ---- its axis
+-- ---- the axis
 
 -- columns have no line
 pub walk-none : WalkLine 0
@@ -85,24 +40,175 @@ walk-none = omega arith
 pub walk-luma : WalkLine 4
 walk-luma = omega arith
 
--- the axes of an accepted picture, as code has them
-module _ {p : Picture} {g : Grid} (grid : GridOf p g) (sizes : pictureSizeValid p ≡ true) (log2 : ctbSizeValid p ≡ true)
-    {list : List ℕ} where
-  pub columns-regular : virtualListValid (p .width) (ctbSize p) list ≡ true → (ratio : ℕ)
-      → Regular (axisOf (p .width) (g .ctb) list 0 ratio)
-  columns-regular valid ratio = rw (grid .ctb) (regular p log2 (p .width) list 0 ratio (sizes-valid p sizes .0) valid)
+-- an axis of an accepted picture through one of its CTBs, with a line at which pieces end
+pub record Along (a : CtbAxis) (list : List ℕ) : Type 0 where
+  pub regular : Regular (axisAlong a list 1)
+  pub line : WalkLine (a .line)
+  pub ctb : a .ctb ≤ 128
+  pub size : a .size ≤ 4096
+  pub begins : a .place * a .ctb < a .size
 
-  pub rows-regular : virtualListValid (p .height) (ctbSize p) list ≡ true → (line ratio : ℕ)
-      → Regular (axisOf (p .height) (g .ctb) list line ratio)
-  rows-regular valid line ratio = rw (grid .ctb) (regular p log2 (p .height) list line ratio (sizes-valid p sizes .1) valid)
+module _ {p : Picture} {g : Grid} (ok : AcceptedPicture p g) {list : List ℕ} where
+  regular-along : (size line : ℕ) → sizeValid size ≡ true → virtualListValid size (ctbSize p) list ≡ true
+      → Regular (axisOf size (g .ctb) list line 1)
+  regular-along size line wide valid = rw (ok .grid .ctb) (regular p (ok .ctbSize) size list line 1 wide valid)
 
--- two sides with the same causes
-sides-same : {given side : Side → ClipCause} → given before ≡ side before → given after ≡ side after → given ≡ side
-sides-same {given} {side} first last = λ t d. at d t
-  where
-    at : (d : Side) → given d ≡ side d
-    at before = first
-    at after = last
+  pub columns-along : (s : Sides) (q : ℕ) → virtualListValid (p .width) (ctbSize p) list ≡ true → q * g .ctb < p .width
+      → Along (columnAxis p g s q) list
+  columns-along s q valid begins = record {
+    regular = regular-along (p .width) 0 (sizes-valid p (ok .sizes) .0) valid;
+    line = walk-none;
+    ctb = ok .grid .ctbHigh;
+    size = width-bounds p (ok .sizes) (ok .ctbSize) .1;
+    begins = begins;
+  }
+
+  pub rows-along : (s : Sides) (q : ℕ) {line : ℕ} → WalkLine line → virtualListValid (p .height) (ctbSize p) list ≡ true
+      → q * g .ctb < p .height → Along (rowAxis p g s line q) list
+  rows-along s q {line} walk valid begins = record {
+    regular = regular-along (p .height) line (sizes-valid p (ok .sizes) .1) valid;
+    line = walk;
+    ctb = ok .grid .ctbHigh;
+    size = height-bounds p (ok .sizes) (ok .ctbSize) .1;
+    begins = begins;
+  }
+
+-- ---- the loop
+
+-- it stands at x: where a piece begins, or where the CTB ends
+pub record Walk (a : CtbAxis) (list : List ℕ) (x : ℕ) : Type 0 where
+  pub from : a .place * a .ctb ≤ x
+  pub upto : x ≤ limitAlong a
+  pub begins : x < limitAlong a → Begins (axisAlong a list 1) (a .place) x
+
+-- what a turn of it finds: the piece p that begins at x, of whole blocks, and where the loop stands behind it
+pub record Turn (a : CtbAxis) (list : List ℕ) (x : ℕ) (p : Piece) : Type 0 where
+  pub start : p .start ≡ x
+  pub piece : PieceOf (axisAlong a list 1) (sidesAlong a) (a .place) p
+  pub blocks : BlockPiece (a .size) p
+  pub next : Walk a list (p .end)
+
+-- in the luma plane, a piece of whole blocks
+pub block-piece : {n ctb : ℕ} {list : List ℕ} {line : ℕ} {side : Side → ClipCause} {q : ℕ} {p : Piece}
+    → Facts (axisOf n ctb list line 1) side q p → BlockPiece n p
+block-piece {n = n} {p = p} f =
+    let own : n / 1 ≡ n = omega arith in
+    record { numbers = rw own at (f .numbers); start4 = omega (arith, f .start4); end4 = omega (arith, f .end4) }
+
+-- code holds the axis as b
+module _ {a : CtbAxis} {list : List ℕ} (along : Along a list) {b : CtbAxis} (same : b ≡ a) where
+  -- what is asked before it is known where the CTB begins and ends
+  pub walk-limits : (b .ctb ≤ 128) × (b .place * b .ctb ≤ 65535)
+  walk-limits =
+      subst (λ (b : CtbAxis). (b .ctb ≤ 128) × (b .place * b .ctb ≤ 65535)) (sym same)
+      (along .ctb, omega (arith, along .begins, along .size))
+
+  -- it begins where the CTB does
+  pub walk-first : {x : ℕ} → x ≡ b .place * b .ctb → x ≡ a .place * a .ctb
+  walk-first e = e ∙ ap (λ (b : CtbAxis). b .place * b .ctb) same
+
+  pub walk-start : {x : ℕ} → x ≡ b .place * b .ctb → Walk a list x
+  walk-start {x} e =
+      let first : x ≡ a .place * a .ctb = walk-first e in
+      record { from = omega arith; upto = omega (arith, along .begins); begins = λ _. at-side first }
+
+  module _ {x : ℕ} (w : Walk a list x) {end : ℕ} (limit : end ≡ limitAlong b) where
+    -- where the CTB ends, the loop does
+    pub walk-done : end ≤ x → x ≡ limitAlong a
+    walk-done h = let last : end ≡ limitAlong a = limit ∙ ap limitAlong same in omega (arith, w .upto)
+
+    module _ (h : x < end) where
+      here : x < limitAlong a
+      here = let last : end ≡ limitAlong a = limit ∙ ap limitAlong same in omega arith
+
+      -- a block of 4 samples is left, since pieces begin and CTBs end at multiples of 4
+      pub walk-block : BlockAt b x
+      walk-block = subst (λ (b : CtbAxis). BlockAt b x) (sym same) record {
+        low = omega (arith, along .regular .big);
+        high = along .ctb;
+        line = along .line .1;
+        size = along .size;
+        from = w .from;
+        upto = omega (
+          arith,
+          here,
+          begins4 (axisAlong a list 1) (along .regular) (along .line) (a .place) x (w .from) here x (w .begins here),
+          limit4 (axisAlong a list 1) (along .regular) (along .line) (a .place) x (w .from) here,
+        );
+      }
+
+      pub turn : {p : Piece} → p ≡ pieceAt (axisAlong b list 1) (sidesAlong b) (b .place) x → Turn a list x p
+      unfolding pieceAt
+      turn {p} found =
+          let e : p ≡ pieceAt (axisAlong a list 1) (sidesAlong a) (a .place) x =
+          found ∙ ap (λ (b : CtbAxis). pieceAt (axisAlong b list 1) (sidesAlong b) (b .place) x) same in
+          let piece : PieceOf (axisAlong a list 1) (sidesAlong a) (a .place) p =
+          rw e record {
+            from = omega (arith, w .from);
+            upto = omega (arith, here);
+            begins = rw mul-one (w .begins here);
+            is = refl;
+          } in
+          let facts = piece-facts _ (along .regular) (along .line) whole (along .ctb) _ _ p piece in
+          record {
+            start = ap (λ (p : Piece). p .start) e;
+            piece = piece;
+            blocks = block-piece facts;
+            next = record {
+              from = omega (arith, facts .from, facts .numbers .filled);
+              upto = omega (arith, facts .upto);
+              begins = λ l. rw mul-one at (facts .next (omega arith));
+            };
+          }
+
+-- the loop's measure
+pub turn-less : {a : CtbAxis} {list : List ℕ} {x end : ℕ} {p : Piece} → Turn a list x p → x < end → end - p .end < end - x
+turn-less t h = omega (arith, t .start, t .blocks .numbers .filled)
+
+-- ---- what it has written
+
+-- a part of a plane for every two places along an axis, from the first up to the second
+pub record Strips (part : ℕ → ℕ → ℕ → Bool) : Type 0 where
+  pub none : (x k : ℕ) → part x x k ≡ false
+  pub more : (x m x′ : ℕ) → x ≤ m → m ≤ x′ → (k : ℕ) → part x x′ k ≡ (part x m k || part m x′ k)
+
+-- pieces of columns, side by side
+pub beside : (columns y y′ : ℕ) → Strips (λ x x′. inRect columns x x′ y y′)
+beside columns y y′ = record {
+  none = λ x k. rect-none columns x x y y′ k (inl (omega arith));
+  more = λ x m x′ low high k. rect-beside columns x m x′ y y′ low high k;
+}
+
+-- pieces of rows, one above the other
+pub stacked : (columns x x′ : ℕ) → Strips (λ y y′. inRect columns x x′ y y′)
+stacked columns x x′ = record {
+  none = λ y k. rect-none columns x x′ y y k (inr (omega arith));
+  more = λ y m y′ low high k. rect-stacked columns x x′ y m y′ low high k;
+}
+
+-- The loop writes from s, where the CTB begins, up to x: in the samples of a plane with this ratio to luma, from s / ratio up to x / ratio.
+
+-- nothing is written yet
+pub written-none : {part : ℕ → ℕ → ℕ → Bool} → Strips part → (ratio : ℕ) {v : ℕ → ℕ} {old : List ℕ} {s x : ℕ} → x ≡ s
+    → Paint old (part (s / ratio) (x / ratio)) v old
+written-none strips ratio {s = s} e = rw e (paint-none (strips .none (s / ratio)))
+
+-- positions in order are, in the samples of a plane, still in order
+div-order : (ratio a b : ℕ) → a ≤ b → a / ratio ≤ b / ratio
+div-order zero a b h = simp div-zero (omega arith)
+div-order (suc r) a b h =
+    le-div-iff-mul-le {k = suc r} {x = a / suc r} (omega arith) .1 (omega (arith, div-mul-le-self a (suc r)))
+
+-- on by a turn's piece
+pub written-turn : {a : CtbAxis} {list : List ℕ} {x : ℕ} {p : Piece} {part : ℕ → ℕ → ℕ → Bool} → Strips part → (ratio : ℕ)
+    → Walk a list x → Turn a list x p → {v : ℕ → ℕ} {old ys zs : List ℕ}
+    → Paint old (part (a .place * a .ctb / ratio) (x / ratio)) v ys → zs ≡ painted ys (part (p .start / ratio) (p .end / ratio)) v
+    → Paint old (part (a .place * a .ctb / ratio) (p .end / ratio)) v zs
+written-turn {x = x} {p} {part} strips ratio w t {v} P e =
+    let low = div-order ratio _ x (w .from) in
+    let high = div-order ratio x (p .end) (omega (arith, t .start, t .blocks .numbers .filled)) in
+    paint-call (part (x / ratio) (p .end / ratio)) v P (rw (t .start) at e) (λ k h t. refl)
+    (λ k h. strips .more _ (x / ratio) (p .end / ratio) low high k)
 
 -- the same piece, of an axis and sides given otherwise
 pub same-piece : {a b : Axis} {side given : Side → ClipCause} {q : ℕ} {p : Piece} → a ≡ b → given before ≡ side before

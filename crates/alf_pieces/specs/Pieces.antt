@@ -13,13 +13,9 @@ use Rattle.alf_spec.specs.Geometry.{Side, before, after, Axis, hasLine, lumaPos
 use Rattle.alf_spec.specs.Boundary.{clipPosition}
 use Rattle.alf_spec.specs.Padding.{isNone, lowest, limit}
 use Rattle.alf_spec.specs.Faults.{pictureSizeValid, ctbSizeValid, virtualBoundariesValid}
+use Rattle.alf_boundary.specs.declared.clips.CtbAxis.{CtbAxis}
 use Rattle.alf_boundary.specs.Tables.{SidesOf}
 use Rattle.alf_pieces.specs.declared.pieces.Piece.{Piece}
-
--- one of two, by the side
-abbrev pub either : ClipCause → ClipCause → Side → ClipCause
-either b c before = b
-either b c after = c
 
 -- ---- where a piece ends, in luma positions
 
@@ -31,7 +27,20 @@ WalkLine n = (n % 4 ≡ 0) × (n ≤ 4)
 abbrev pub ctbLimit : Axis → ℕ → ℕ
 ctbLimit a q = min (q * a .ctb + a .ctb) (a .size)
 
--- its line-buffer boundary
+-- where the CTB that an axis goes through ends in the picture
+abbrev pub limitAlong : CtbAxis → ℕ
+limitAlong a = min (a .place * a .ctb + a .ctb) (a .size)
+
+-- a block of 4 luma samples from x on lies in the CTB that an axis goes through, and all numbers are as small as 32-bit sums need
+pub record BlockAt (a : CtbAxis) (x : ℕ) : Type 0 where
+  pub low : 4 ≤ a .ctb
+  pub high : a .ctb ≤ 128
+  pub line : a .line ≤ 4
+  pub size : a .size ≤ 4096
+  pub from : a .place * a .ctb ≤ x
+  pub upto : x + 4 ≤ limitAlong a
+
+-- the line-buffer boundary of the CTB at place q
 abbrev pub ctbLine : Axis → ℕ → ℕ
 ctbLine a q = q * a .ctb + (a .ctb - a .line)
 

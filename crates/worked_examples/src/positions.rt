@@ -1,15 +1,16 @@
 // P9 to P11 on what the filters run: clip positions and their causes, the copy of a piece, and the line rule. CTBs are of 32.
 ghost use Prim.Native.Nat.{_≤_};
+use alf_boundary::clips::CtbAxis;
 use alf_boundary::clips::FoundClip;
-use alf_boundary::clips::clip_after;
-use alf_boundary::clips::clip_before;
+use alf_boundary::clips::column_axis;
+use alf_boundary::clips::find_clip;
 use alf_boundary::clips::line_rule;
+use alf_boundary::clips::row_axis;
 use alf_boundary::sides::sides_of;
 use alf_math::grid::grid;
 use alf_pieces::copies::copy_piece;
 use alf_pieces::copies::extent;
-use alf_pieces::pieces::column_piece;
-use alf_pieces::pieces::row_piece;
+use alf_pieces::pieces::piece_at;
 use alf_print::print;
 use alf_print::print_cause;
 use alf_print::print_number;
@@ -31,30 +32,38 @@ fn show_clip(y: u32, found: FoundClip) {
     }
 }
 
-// The clip position below row y of the CTB at 0, where the line lies so many rows above its bottom: no virtual rows, sides open.
+// The clip position below row y of the CTB at 0, or above it, where the line lies so many rows above its bottom: no virtual rows, sides
+// open.
+fn show_beside(after: bool, line: u32, y: u32)
+    requires { ⌜ (line ≤ 4) × (y ≤ 31) ⌝ }
+{
+    let boundaries = [0u16; 1];
+    let none = 0;
+    let axis = CtbAxis {
+        size: 64,
+        ctb: 32,
+        line: line,
+        before: ClipCause::Open,
+        after: ClipCause::Open,
+        place: 0,
+    };
+    show_clip(y, find_clip(axis, &boundaries[..none], after, y));
+}
+
+// The clip position below row y.
 pub fn show_below(line: u32, y: u32)
     requires { ⌜ (line ≤ 4) × (y ≤ 31) ⌝ }
 {
-    let boundaries = [0u16; 1];
-    let none = 0;
     print(b"  below ");
-    show_clip(
-        y,
-        clip_after(0, 32, line, &boundaries[..none], ClipCause::Open, y),
-    );
+    show_beside(true, line, y);
 }
 
-// And above it.
+// The clip position above row y.
 pub fn show_above(line: u32, y: u32)
     requires { ⌜ (line ≤ 4) × (y ≤ 31) ⌝ }
 {
-    let boundaries = [0u16; 1];
-    let none = 0;
     print(b"  above ");
-    show_clip(
-        y,
-        clip_before(0, 32, line, &boundaries[..none], ClipCause::Open, y),
-    );
+    show_beside(false, line, y);
 }
 
 // Each sample is its own index, so that a copy tells where its samples come from.
@@ -106,8 +115,16 @@ pub fn show_corner() {
         &across,
         ctb,
     );
-    let columns = column_piece(picture, grid, &boundaries[..none], 1, sides, 1, 32);
-    let rows = row_piece(picture, grid, 4, &boundaries[..none], 1, sides, 1, 32);
+    let columns = piece_at(
+        column_axis(picture, grid, sides, 1),
+        &boundaries[..none],
+        32,
+    );
+    let rows = piece_at(
+        row_axis(picture, grid, sides, 4, 1),
+        &boundaries[..none],
+        32,
+    );
     let mut plane = [0u16; 1600];
     number_samples(&mut plane);
     let mut copy = [0u16; 196];

@@ -1,4 +1,5 @@
--- `alf_boundary::clips::line_rule` meets its contract. Assumes nothing.
+-- `alf_boundary::clips::line_rule` meets its contract: the CTB of y begins no later than y. Assumes nothing.
+use Prim.Native.Nat.{_*_, _/_, _≤_}
 use native.Mathlib.Nat.{div-mul-le-self}
 use native.Mathlib.Omega.{arith}
 use borrow.Author.Needs.{needs}
@@ -6,11 +7,16 @@ use Rattle.alf_spec.specs.Geometry.{lineRule}
 use Rattle.alf_boundary.proofs.clips.line_rule.Statement.{statement}
 use Rattle.alf_boundary.proofs.clips.line_rule.Tie as tie
 
+-- where the CTB begins
+low : (s : tie.Start) → s .args .y / s .args .ctb * s .args .ctb ≤ s .args .y
+low s = div-mul-le-self (s .args .y) (s .args .ctb)
+
 pub line-rule-spec : {M : Type 1} → statement M
 unfolding lineRule
 line-rule-spec =
     tie.close
     (tie.spec
-    (λ c κs. search needs)
-    (λ c. omega (arith, c .ctb-start .ensures, div-mul-le-self (c .before .args .y) (c .before .args .ctb)))
-    (λ c a e f. rw (e, f, c .ctb-start .ensures)))
+    (λ c. search needs)
+    (λ c. omega (arith, low c))
+    (λ c. omega (arith, low c))
+    (λ c a e f. rw (e, f)))

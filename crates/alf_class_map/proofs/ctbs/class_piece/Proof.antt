@@ -9,7 +9,7 @@ use Rattle.alf_pieces.proofs.CopySamples.{copy-small}
 use Rattle.alf_pieces.proofs.CopyRooms.{copy-fits, rows-fit}
 use Rattle.alf_classify.proofs.PieceRows.{blocks}
 use Rattle.alf_classify.proofs.PieceClasses.{class-same}
-use Rattle.alf_class_map.proofs.ClassWorks.{own-map}
+use Rattle.alf_class_map.proofs.ClassInputs.{own-map}
 use Rattle.alf_class_map.proofs.ctbs.class_piece.Statement.{statement}
 use Rattle.alf_class_map.proofs.ctbs.class_piece.Tie as tie
 

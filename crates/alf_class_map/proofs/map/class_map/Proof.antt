@@ -18,7 +18,7 @@ use Rattle.alf_lists.proofs.Painted.{Paint}
 use Rattle.alf_pieces.proofs.CtbPieces.{ctb-accepted}
 use Rattle.alf_pieces.proofs.CtbRegions.{ctb-painted, ctbs-none, ctbs-next, ctb-passes, all-painted}
 use Rattle.alf_sides.proofs.PlannedSides.{planned-sides}
-use Rattle.alf_class_map.proofs.ClassWorks.{whole-blocks, accepted-classes, map-length, ctb-given}
+use Rattle.alf_class_map.proofs.ClassInputs.{whole-blocks, accepted-classes, map-length, ctb-given}
 use Rattle.alf_class_map.proofs.map.class_map.Statement.{statement}
 use Rattle.alf_class_map.proofs.map.class_map.Tie as tie
 

@@ -70,7 +70,7 @@ filter-ctb-requires : tie.Need-filter-ctb-requires
 filter-ctb-requires c κs =
     let s = start (marked (sided (loaded c)) .before) in
     let accepted = s .pre .0 in
-    let begins = ctb-in-picture (accepted .planes .grid) (s .args .k) (s .pre .1) in (
+    let begins = ctb-in-picture (accepted .planes .picture .grid) (s .args .k) (s .pre .1) in (
       accepted .planes,
       loaded c .load .ensures .0,
       s .pre .5,
@@ -95,13 +95,13 @@ filtered c =
       (λ i given planned.
           let ok = layout-accepted f i (given .accepted) in
           let same = same-picture given in
-          let grid : GridOf (i .layout .picture) g = rw same (accepted .planes .grid) in
+          let grid : GridOf (i .layout .picture) g = rw same (accepted .planes .picture .grid) in
           let sides = planned-sides (i .layout) grid (s .args .sides .now) planned k (s .pre .1) (sided load .sides-at .ensures) in
           let own = subst (λ (p : Picture). CtbOf (i .layout) p ctb (sided load .sides-at .result)) same (ctb-accepted ok sides) in
           let at : address (i .layout) ctb ≡ k =
           rw (← (grid-columns (i .layout) _ grid)) (div-add-mod' k (g .columns)) in
           ctb-passes _ _ _ _ k _ (on (marked (sided load)))
-          (ctb-done f (i .layout) ok g _ _ _ k same (accepted .planes .grid) (s .pre .5 .outputLength)
+          (ctb-done f (i .layout) ok g _ _ _ k same (accepted .planes .picture .grid) (s .pre .5 .outputLength)
           (called .filter-ctb .ensures .0 i own (same-virtual-columns given) (same-virtual-rows given) (same-luma given) (same-chroma given)
           (load .load .ensures .1 i _ (same-tables given at) (same-fixed given))))),
       called .filter-ctb .ensures .1,

@@ -56,7 +56,7 @@ turn c = let copied = c .before .before .before in copied .before
 loop-holds : tie.Need-loop-holds Inv-loop μ-loop
 loop-holds c = (
   omega arith,
-  few-ctbs (start c .pre .0 .planes .grid),
+  few-ctbs (start c .pre .0 .planes .picture .grid),
   length-replicate area zero,
   length-replicate (4 * area) zero,
   length-replicate 3072 (pos 0),
@@ -113,7 +113,7 @@ returns c =
     let s = start (c .before .before) in
     let l = c .before .loop in
     λ i given planned.
-    let grid : GridOf (i .layout .picture) (s .args .grid) = rw (same-picture given) (s .pre .0 .planes .grid) in
+    let grid : GridOf (i .layout .picture) (s .args .grid) = rw (same-picture given) (s .pre .0 .planes .picture .grid) in
     all-marked (s .args .filter) i (given .accepted) (s .args .marks .now) (l .k)
     (le-antisymm (l .inv .0) (c .loop-test .left) ∙ grid-total (i .layout) _ grid) (s .args .output .now)
     (plane-size (s .args .filter) (i .layout) (same-picture given) (s .pre .4)) (l .inv .7 i given planned)
@@ -124,7 +124,7 @@ filter-marked-spec =
     (tie.spec
     Inv-loop
     μ-loop
-    (λ c. omega (arith, few-ctbs (start c .pre .0 .planes .grid)))
+    (λ c. omega (arith, few-ctbs (start c .pre .0 .planes .picture .grid)))
     loop-holds
     (λ c. sym (c .before .before .loop .inv .2))
     (λ c. sym (c .before .before .before .loop .inv .3))

@@ -1,10 +1,10 @@
 -- `alf_op_causes::causes::causes_at` meets its contract: the rule, once for each side. Assumes nothing.
-use Prim.Native.Nat.{_*_, _/_, _<_}
-use native.Mathlib.Nat.{div-mul-le-self}
-use native.Mathlib.Omega.{arith}
+use mathlib.Core.Path.{sym, subst}
+use Prim.Native.Nat.{_<_}
 use borrow.Author.Needs.{needs}
 use Rattle.alf_spec.specs.Input.{Layout, layoutOf}
 use Rattle.alf_spec.proofs.Accepted.{AcceptedLayout, accepted-position}
+use Rattle.alf_boundary.specs.declared.clips.CtbAxis.{CtbAxis}
 use Rattle.alf_boundary.specs.Clips.{InCtb}
 use Rattle.alf_op_causes.proofs.Positions.{in-grid, bounded, causes-are}
 use Rattle.alf_op_causes.proofs.causes.causes_at.Statement.{statement}
@@ -23,31 +23,40 @@ accepted s = accepted-position (layout s) (s .args .x) (s .args .y) (s .pre)
 
 -- what the function is given, seen from where the grid is known
 abbrev start : tie.After-grid → tie.Start
-start c = search needs
+start c = let tables = c .before .before .before .before in tables .before .before .before .before
 
--- the position is small enough for the rule
-small : (c : tie.After-grid) → let ctb = c .grid .result .ctb in
-    InCtb (start c .args .x / ctb * ctb) ctb 0 (start c .args .x) × InCtb (start c .args .y / ctb * ctb) ctb 4 (start c .args .y)
+-- where the grid is known, seen from where the two axes are
+abbrev known : tie.After-row-axis → tie.After-grid
+known c = let sides = c .before .before in sides .before .before .before
+
+-- the position is one of the axes' CTB
+small : (c : tie.After-row-axis) → let s = start (known c) .args in InCtb (c .before .column-axis .result) (s .x)
+    × InCtb (c .row-axis .result) (s .y)
 small c =
-    let s = start c in
+    let g = known c in
+    let s = start g in
     let ok = accepted s in
-    bounded (layout s) (ok .0) (c .grid .ensures) (s .args .x) (s .args .y) (ok .1) (ok .2)
+    let sides = c .before .before .sides-of .result in
+    let own = bounded (layout s) (ok .0) (g .grid .ensures) (s .args .x) (s .args .y) (ok .1) (ok .2) sides in (
+      subst (λ (a : CtbAxis). InCtb a (s .args .x)) (sym (c .before .column-axis .ensures)) (own .0),
+      subst (λ (a : CtbAxis). InCtb a (s .args .y)) (sym (c .row-axis .ensures)) (own .1),
+    )
 
 returns : tie.Need-returns
 returns c =
     let left = c .before in
     let bottom = left .before in
     let top = bottom .before in
-    let known : tie.After-sides-of = search needs in
-    let g : tie.After-grid = search needs in
+    let axes = top .before in
+    let g = known axes in
     let s = start g in
     let ok = accepted s in
-    let sides = known .sides-of .ensures (s .args .virtual-columns .now) (s .args .virtual-rows .now) in
-    let width = s .args .picture .width in
-    let height = s .args .picture .height in
+    let sides = axes .before .before .sides-of .ensures (s .args .virtual-columns .now) (s .args .virtual-rows .now) in
     causes-are (layout s) (ok .0) (g .grid .ensures) (s .args .x) (s .args .y) (ok .1) (ok .2) sides
-    (top .cause-before .ensures height 1) (bottom .cause-after .ensures height 1) (left .cause-before2 .ensures width 1)
-    (c .cause-after2 .ensures width 1)
+    (rw (axes .row-axis .ensures) at (top .cause-at .ensures))
+    (rw (axes .row-axis .ensures) at (bottom .cause-at2 .ensures))
+    (rw (axes .before .column-axis .ensures) at (left .cause-at3 .ensures))
+    (rw (axes .before .column-axis .ensures) at (c .cause-at4 .ensures))
 
 pub causes-at-spec : {M : Type 1} → statement M
 causes-at-spec =
@@ -61,10 +70,10 @@ causes-at-spec =
     let s = start g in
     let ok = accepted s in
     in-grid (layout s) (ok .0) (g .grid .ensures) (s .args .x) (s .args .y) (ok .1) (ok .2))
-    (λ c. let g : tie.After-grid = search needs in omega (arith, small g .0 .2, div-mul-le-self (start g .args .x) (g .grid .result .ctb)))
-    (λ c. let g : tie.After-grid = search needs in omega (arith, small g .1 .2, div-mul-le-self (start g .args .y) (g .grid .result .ctb)))
-    (λ c κs. let g : tie.After-grid = search needs in small g .1)
-    (λ c κs. let g : tie.After-grid = search needs in small g .1)
-    (λ c κs. let g : tie.After-grid = search needs in small g .0)
-    (λ c κs. let g : tie.After-grid = search needs in small g .0)
+    (λ c κs. search needs)
+    (λ c κs. search needs)
+    (λ c κs. small c .1)
+    (λ c κs. small (c .before) .1)
+    (λ c κs. small (c .before .before) .0)
+    (λ c κs. small (c .before .before .before) .0)
     returns)

@@ -1,25 +1,27 @@
 -- `worked_examples::positions::show_corner` meets its contract: the picture is accepted, the tables have its grid's lengths, and the copy
 -- of the last CTB's one piece is of 14 by 14 samples. Assumes nothing.
-use mathlib.Core.Path.{_≡_, refl, sym}
+use mathlib.Core.Path.{_≡_, refl, sym, subst}
 use mathlib.Core.Bool.{true, false}
 use mathlib.Core.List.{[], _∷_}
-use Prim.Native.Nat.{_≤_}
+use Prim.Native.Nat.{_*_, _≤_, _<_}
 use native.Mathlib.Nat.{mul-le-mul}
 use native.Mathlib.Omega.{arith}
 use lib.ListN.{replicate}
 use borrow.Author.Needs.{needs}
 use Rattle.alf_spec.specs.declared.Picture.{Picture}
 use Rattle.alf_spec.specs.declared.Grid.{Grid}
+use Rattle.alf_spec.specs.declared.Sides.{Sides}
 use Rattle.alf_spec.specs.Lists.{everyFrom, allBelow}
 use Rattle.alf_spec.specs.Geometry.{ctbSize}
-use Rattle.alf_spec.specs.Faults.{pictureSizeValid, ctbSizeValid, virtualListValid}
-use Rattle.alf_spec.proofs.Ratios.{whole}
-use Rattle.alf_math.specs.Grids.{ctbsAlong, GridOf}
+use Rattle.alf_spec.specs.Faults.{pictureSizeValid, ctbSizeValid, bitDepthValid, virtualListValid}
+use Rattle.alf_math.specs.Grids.{ctbsAlong, GridOf, AcceptedPicture}
+use Rattle.alf_boundary.specs.declared.clips.CtbAxis.{CtbAxis}
+use Rattle.alf_boundary.specs.Clips.{columnAxis, rowAxis, axisAlong, sidesAlong}
 use Rattle.alf_boundary.specs.Tables.{MembershipTables}
 use Rattle.alf_pieces.specs.declared.pieces.Piece.{Piece}
-use Rattle.alf_pieces.specs.Pieces.{PieceIn}
+use Rattle.alf_pieces.specs.Pieces.{limitAlong, BlockAt, pieceAt, PieceIn}
 use Rattle.alf_pieces.specs.Copies.{pitch}
-use Rattle.alf_pieces.proofs.PieceWalk.{walk-none, walk-luma, walk-start, turn, columns-regular, rows-regular}
+use Rattle.alf_pieces.proofs.PieceWalk.{walk-luma, Along, columns-along, rows-along, Walk, walk-start, walk-block, turn}
 use Rattle.worked_examples.proofs.positions.show_corner.Statement.{statement}
 use Rattle.worked_examples.proofs.positions.show_corner.Tie as tie
 
@@ -77,27 +79,82 @@ record Last (p : Piece) : Type 0 where
   is : PieceIn 40 p
   begins : p .start ≡ 32
 
-last-columns : (c : tie.After-column-piece) → Last (c .column-piece .result)
-last-columns c =
-    let g : tie.After-grid = search needs in
-    let h = g .grid .ensures in
-    let t = turn (columns-regular h sizes log2 no-boundaries 1) whole walk-none (h .ctbHigh)
-    (walk-start {x = 32} (omega (arith, side _ h)) (omega (arith, side _ h)))
-    (omega (arith, side _ h)) (c .column-piece .ensures) in
-    record { is = t .facts .numbers; begins = t .start }
+-- an axis through the last CTB, which code holds as b
+module _ {a b : CtbAxis} (along : Along a []) (same : b ≡ a) (begins : a .place * a .ctb ≡ 32) (size : a .size ≡ 40)
+    (ctb : a .ctb ≡ 32) where
+  walked : Walk a [] 32
+  walked =
+      let first : 32 ≡ a .place * a .ctb = omega arith in
+      walk-start along same (subst (λ (b : CtbAxis). 32 ≡ b .place * b .ctb) (sym same) first)
 
-last-rows : (c : tie.After-row-piece) → Last (c .row-piece .result)
+  ahead : 32 < limitAlong b
+  ahead = let inside : 32 < limitAlong a = omega arith in subst (λ (b : CtbAxis). 32 < limitAlong b) (sym same) inside
+
+  block : BlockAt b 32
+  block = walk-block along same walked refl ahead
+
+  last : {p : Piece} → p ≡ pieceAt (axisAlong b [] 1) (sidesAlong b) (b .place) 32 → Last p
+  last e =
+      let t = turn along same walked refl ahead e in
+      record { is = rw size at (t .blocks .numbers); begins = t .start }
+
+-- the picture is accepted
+picture-is : {g : Grid} → GridOf picture g → AcceptedPicture picture g
+unfolding bitDepthValid
+picture-is h = record { grid = h; sizes = sizes; ctbSize = log2; depth = refl }
+
+-- its axes through the last CTB
+columns-on : (g : Grid) → GridOf picture g → (s : Sides) → Along (columnAxis picture g s 1) []
+columns-on g h s = columns-along (picture-is h) s 1 no-boundaries (omega (arith, side g h))
+
+rows-on : (g : Grid) → GridOf picture g → (s : Sides) → Along (rowAxis picture g s 4 1) []
+rows-on g h s = rows-along (picture-is h) s 1 walk-luma no-boundaries (omega (arith, side g h))
+
+-- where the grid is known, seen from the axis of columns
+abbrev grid-known : tie.After-column-axis → tie.After-grid
+grid-known c = let lent = c .before .before .before in let tables = lent .before .before .before in tables .before
+
+-- the axis of columns, seen from that of rows
+abbrev across : tie.After-row-axis → tie.After-column-axis
+across c = c .before .before .before
+
+columns-block : (c : tie.After-column-axis) → BlockAt (c .column-axis .result) 32
+columns-block c =
+    let g = grid-known c .grid in
+    block (columns-on (g .result) (g .ensures) (c .before .sides-of .result)) (c .column-axis .ensures)
+    (omega (arith, side (g .result) (g .ensures))) refl (side (g .result) (g .ensures))
+
+rows-block : (c : tie.After-row-axis) → BlockAt (c .row-axis .result) 32
+rows-block c =
+    let g = grid-known (across c) .grid in
+    block (rows-on (g .result) (g .ensures) (across c .before .sides-of .result)) (c .row-axis .ensures)
+    (omega (arith, side (g .result) (g .ensures))) refl (side (g .result) (g .ensures))
+
+last-columns : (c : tie.After-piece-at) → Last (c .piece-at .result)
+last-columns c =
+    let k = c .before .before in
+    let g = grid-known k .grid in
+    last (columns-on (g .result) (g .ensures) (k .before .sides-of .result)) (k .column-axis .ensures)
+    (omega (arith, side (g .result) (g .ensures))) refl (side (g .result) (g .ensures)) (c .piece-at .ensures)
+
+last-rows : (c : tie.After-piece-at2) → Last (c .piece-at2 .result)
 last-rows c =
-    let g : tie.After-grid = search needs in
-    let h = g .grid .ensures in
-    let t = turn (rows-regular h sizes log2 no-boundaries 4 1) whole walk-luma (h .ctbHigh)
-    (walk-start {x = 32} (omega (arith, side _ h)) (omega (arith, side _ h)))
-    (omega (arith, side _ h)) (c .row-piece .ensures) in
-    record { is = t .facts .numbers; begins = t .start }
+    let k = c .before .before in
+    let g = grid-known (across k) .grid in
+    last (rows-on (g .result) (g .ensures) (across k .before .sides-of .result)) (k .row-axis .ensures)
+    (omega (arith, side (g .result) (g .ensures))) refl (side (g .result) (g .ensures)) (c .piece-at2 .ensures)
 
 -- 8 samples, and the margins
 pitch-small : {p : Piece} → Last p → pitch p ≤ 14
 pitch-small l = omega (arith, l .is .high, l .is .inside, l .begins)
+
+-- the piece has 8 columns
+narrow : (c : tie.After-extent) → c .extent .result ≤ 8
+narrow c =
+    let copied = c .before .before .before in
+    let drawn = copied .before .before .before in
+    let stacked = drawn .before .before in
+    omega (arith, c .extent .ensures, pitch-small (last-columns (stacked .before .before .before)))
 
 pub show-corner-spec : {M : Type 1} → statement M
 show-corner-spec =
@@ -106,24 +163,20 @@ show-corner-spec =
     (λ c κs. (sizes, log2))
     (λ c. search needs) (λ c. search needs) (λ c. search needs) (λ c. search needs) (λ c. search needs)
     (λ c κs.
-    let g = c .before .before .before .before .before .grid in
+    let tables-lent = c .before .before .before in
+    let g = tables-lent .before .before .grid in
     let wide = columns (g .result) (g .ensures) in
     let high = rows (g .result) (g .ensures) in
     (g .ensures, tables (g .result) (g .ensures), omega arith, omega arith))
-    (λ c. search needs) (λ c. search needs)
-    (λ c κs.
-    let g : tie.After-grid = search needs in
-    let h = g .grid .ensures in
-    (h, omega arith, omega arith, omega arith, omega arith, omega (arith, side _ h)))
-    (λ c. search needs) (λ c. search needs)
-    (λ c κs.
-    let g : tie.After-grid = search needs in
-    let h = g .grid .ensures in
-    (h, omega arith, omega arith, omega arith, omega arith, omega arith, omega (arith, side _ h)))
+    (λ c κs. search needs) (λ c. search needs) (λ c. search needs)
+    (λ c κs. columns-block (c .before))
+    (λ c κs. search needs) (λ c. search needs) (λ c. search needs)
+    (λ c κs. rows-block (c .before))
     (λ c. search needs) (λ c κs. search needs) (λ c. search needs) (λ c. search needs)
     (λ c κs.
-    let stacked = c .before .before .before .before .before in
-    let across = last-columns (stacked .before .before) in
+    let drawn = c .before .before .before in
+    let stacked = drawn .before .before in
+    let across = last-columns (stacked .before .before .before) in
     let down = last-rows stacked in (
       across .is,
       down .is .low,
@@ -132,14 +185,15 @@ show-corner-spec =
       omega (arith, down .is .inside, c .before .before .plane2 .given),
       mul-le-mul (pitch-small down) (pitch-small across),
     ))
-    (λ c κs. omega (arith, last-columns (c .before .before .before .before .before .before .before .before .before) .is .filled))
-    (λ c. search needs) (λ c. search needs) (λ c κs. search needs) (λ c. search needs) (λ c. search needs) (λ c. search needs)
-    (λ c.
-    let copied = c .before .before in
-    omega (
-      arith,
-      copied .extent .ensures,
-      pitch-small
-          (last-columns (copied .before .before .before .before .before .before .before .before .before .before)),
-    ))
+    (λ c κs.
+    let copied = c .before .before .before in
+    let drawn = copied .before .before .before in
+    let stacked = drawn .before in
+    omega (arith, last-columns (stacked .before .before .before) .is .filled))
+    (λ c. omega (arith, narrow c))
+    (λ c. search needs) (λ c κs. search needs)
+    (λ c. omega (arith, narrow (c .before .before)))
+    (λ c. omega (arith, narrow (c .before .before)))
+    (λ c. omega (arith, narrow (c .before .before)))
+    (λ c. omega (arith, narrow (c .before .before)))
     (λ c κs. search needs) (λ c. search needs))

@@ -1,4 +1,4 @@
--- What the functions from a piece to the plane are given. Assumes nothing.
+-- What the functions that filter a piece, a strip of pieces and a CTB are given, and what they leave. Assumes nothing.
 use mathlib.Core.Path.{_≡_}
 use mathlib.Core.Bool.{true}
 use mathlib.Core.List.{List}
@@ -14,8 +14,7 @@ use Rattle.alf_spec.specs.Input.{given, Input}
 use Rattle.alf_spec.specs.Geometry.{subWidth, subHeight}
 use Rattle.alf_spec.specs.Boundary.{columnSide, rowSide}
 use Rattle.alf_spec.specs.Process.{atIndex, outputPlane}
-use Rattle.alf_spec.specs.Faults.{pictureSizeValid, ctbSizeValid, bitDepthValid}
-use Rattle.alf_math.specs.Grids.{GridOf}
+use Rattle.alf_math.specs.Grids.{AcceptedPicture}
 use Rattle.alf_math.specs.Integers.{CoeffRange, ClipRange}
 use Rattle.alf_pieces.specs.declared.pieces.Piece.{Piece}
 use Rattle.alf_lists.specs.Regions.{inRect}
@@ -29,11 +28,8 @@ use Rattle.alf_ctb.specs.declared.Filter.the-variants.{Luma, Chroma, Cro
 use Rattle.alf_ctb.specs.Filters.{operationOf, columnRatio, rowRatio, walkPlane, sampleOf, OwnFilter}
 
 -- an accepted picture, its planes as far as the filter is given them, and the tap order
-pub record Given (f : Filter) (p : Picture) (g : Grid) (lumaSamples chromaSamples places : List ℕ) : Type 0 where
-  pub grid : GridOf p g
-  pub sizes : pictureSizeValid p ≡ true
-  pub ctbSize : ctbSizeValid p ≡ true
-  pub depth : bitDepthValid p ≡ true
+pub record FilterInput (f : Filter) (p : Picture) (g : Grid) (lumaSamples chromaSamples places : List ℕ) : Type 0 where
+  pub picture : AcceptedPicture p g
   pub lumaLength : given (operationOf f) .luma ≡ true → length lumaSamples ≡ p .width * p .height
   pub chromaLength : given (operationOf f) .chroma ≡ true → length chromaSamples ≡ (p .width / subWidth p) * (p .height / subHeight p)
   pub luma : given (operationOf f) .luma ≡ true → (k : ℕ) → getD lumaSamples k 0 < 4096
@@ -41,7 +37,7 @@ pub record Given (f : Filter) (p : Picture) (g : Grid) (lumaSamples chromaSample
   pub order : TapOrders places
 
 -- what it works in: room for the copy of a piece and for its differences, the spread numbers of a filter, and an output of the plane's size
-pub record Rooms (f : Filter) (p : Picture) (copy differences : ℕ) (taps : List ℤ) (output : ℕ) : Type 0 where
+pub record FilterRooms (f : Filter) (p : Picture) (copy differences : ℕ) (taps : List ℤ) (output : ℕ) : Type 0 where
   pub copyRoom : area ≤ copy
   pub differenceRoom : 4 * area ≤ differences
   pub spread : TapNumbers taps

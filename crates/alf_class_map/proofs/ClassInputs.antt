@@ -19,7 +19,7 @@ use Rattle.alf_pieces.specs.declared.pieces.Piece.{Piece}
 use Rattle.alf_pieces.specs.Pieces.{BlockPiece}
 use Rattle.alf_pieces.specs.Copies.{area}
 use Rattle.alf_classify.specs.PieceClasses.{MapRoom}
-use Rattle.alf_class_map.specs.Work.{ClassWork}
+use Rattle.alf_class_map.specs.ClassWork.{ClassWork}
 use Rattle.alf_classify.proofs.PieceRows.{blocks}
 
 -- lists of the same lengths
