@@ -31,15 +31,8 @@ returns c =
 pub fill-spec : {M : Type 1} → statement M
 fill-spec =
     tie.close
-    (tie.spec
-    Inv-loop
-    μ-loop
+    (tie.spec Inv-loop μ-loop
     (λ c. (omega arith, fill-none (run-none _)))
-    (λ c. omega arith)
-    (λ c. omega arith)
-    (λ c. omega arith)
-    (λ c. omega arith)
-    (λ c. omega arith)
+    (λ c. omega arith) (λ c. omega arith) (λ c. omega arith) (λ c. omega arith) (λ c. omega arith)
     (λ c. (omega arith, fill-set _ _ (c .before .loop .inv .1) (omega arith) refl (λ j h. run-more _ _ j)))
-    (λ c. search needs)
-    returns)
+    (λ c. search needs) returns)

@@ -19,10 +19,7 @@ pub virtual-clip-spec : {M : Type 1} → statement M
 unfolding virtualClip
 virtual-clip-spec =
     tie.close
-    (tie.spec
-    Inv-loop
-    μ-loop
-    (λ c. sought-none _ _)
+    (tie.spec Inv-loop μ-loop (λ c. sought-none _ _)
     (λ c. search needs) (λ c. search needs)
     (λ c. omega (arith, c .shared-slice-known2 .given (c .before .before .loop .i)))
     (λ c κs. (c .before .before .before .before .pre, omega (arith, c .shared-slice-known2 .given (c .before .before .loop .i))))

@@ -16,8 +16,7 @@ product s =
 pub address-spec : {M : Type 1} → statement M
 address-spec =
     tie.close
-    (tie.spec
-    (λ c. search needs)
+    (tie.spec (λ c. search needs)
     (λ c. record { fits = omega (arith, product (c .before)) })
     (λ c. search needs)
     (λ c. record { fits = omega (arith, product (c .before .before)) })

@@ -6,8 +6,7 @@ use Rattle.alf_boundary.proofs.sides.step_cause.Tie as tie
 pub step-cause-spec : {M : Type 1} → statement M
 step-cause-spec =
     tie.close
-    (tie.spec
-    (λ c κs. search needs)
+    (tie.spec (λ c κs. search needs)
     (λ c. rw (c .if1 .taken))
     (λ c.
     let called : tie.After-slice-step-disabled = search needs in

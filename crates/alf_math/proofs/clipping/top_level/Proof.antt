@@ -8,7 +8,6 @@ use Rattle.alf_math.proofs.clipping.top_level.Tie as tie
 pub top-level-spec : {M : Type 1} → statement M
 top-level-spec =
     tie.close
-    (tie.spec
-    (λ c. search needs)
+    (tie.spec (λ c. search needs)
     (λ c. omega (arith, pow-pos (c .args .depth), pow-mono (c .pre)))
     (λ c. omega (arith, pow-pos (c .args .depth), pow-mono (c .pre))))

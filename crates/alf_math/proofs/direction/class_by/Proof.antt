@@ -8,7 +8,4 @@ pub class-by-spec : {M : Type 1} → statement M
 unfolding transposeIdx
 class-by-spec =
     tie.close
-    (tie.spec
-    (λ c κs. search needs)
-    (λ c κs. search needs)
-    (λ c. cc))
+    (tie.spec (λ c κs. search needs) (λ c κs. search needs) (λ c. cc))

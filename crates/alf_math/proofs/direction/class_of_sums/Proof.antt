@@ -43,12 +43,7 @@ returns-2 c =
 pub class-of-sums-spec : {M : Type 1} → statement M
 class-of-sums-spec =
     tie.close
-    (tie.spec
-    (λ c κs. search needs)
-    (λ c κs. search needs)
-    (λ c. search needs)
-    (λ c κs. search needs)
-    (λ c κs. search needs)
+    (tie.spec (λ c κs. search needs) (λ c κs. search needs) (λ c. search needs) (λ c κs. search needs) (λ c κs. search needs)
     (λ c κs. let a = c .before .before in omega (
       arith,
       level-small a,
@@ -61,5 +56,4 @@ class-of-sums-spec =
       slanted-small (a .before .before),
       straight-small (a .before .before .before),
     ))
-    returns
-    returns-2)
+    returns returns-2)

@@ -25,8 +25,7 @@ pub filter-index-spec : {M : Type 1} → statement M
 unfolding filtIdx
 filter-index-spec =
     tie.close
-    (tie.spec
-    (λ c κs. search needs)
+    (tie.spec (λ c κs. search needs)
     (λ c. omega (arith, small (c .before .before)))
     (λ c. omega (arith, small (c .before .before)))
     (λ c. omega (arith, small (c .before .before)))

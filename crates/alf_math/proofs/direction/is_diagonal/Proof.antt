@@ -8,6 +8,4 @@ pub is-diagonal-spec : {M : Type 1} → statement M
 unfolding diagonal
 is-diagonal-spec =
     tie.close
-    (tie.spec
-    (λ c. search needs)
-    (λ c. c .product-less .ensures))
+    (tie.spec (λ c. search needs) (λ c. c .product-less .ensures))

@@ -11,8 +11,7 @@ none c = let zero : c .before .before .before .args .factor ≡ 0 = omega arith 
 pub multiple-spec : {M : Type 1} → statement M
 multiple-spec =
     tie.close
-    (tie.spec
-    (λ c. search needs)
+    (tie.spec (λ c. search needs)
     (λ c. rw (c .if1 .taken) (omega arith))
     (λ c. rw (c .if2 .taken) (omega arith))
     (λ c. rw (c .if3 .taken) (omega arith))

@@ -45,8 +45,7 @@ module _ (g : Gradient) (large : g .large < 2 ^ 18) (small : g .small < 2 ^ 18) 
 pub strength-spec : {M : Type 1} → statement M
 strength-spec =
     tie.close
-    (tie.spec
-    (λ c. search needs)
+    (tie.spec (λ c. search needs)
     (λ c. let s : tie.Start = search needs in strong (s .args .g) (s .pre .0) (s .pre .1) (c .if1 .taken))
     (λ c. let s : tie.Start = search needs in weak (s .args .g) (s .pre .0) (s .pre .1) (search needs) (c .if2 .taken))
     (λ c. let s : tie.Start = search needs in none (s .args .g) (s .pre .0) (s .pre .1) (search needs) (c .if2 .left)))

@@ -8,6 +8,5 @@ use Rattle.alf_math.proofs.Grids.{shifted}
 pub ctb-size-spec : {M : Type 1} → statement M
 ctb-size-spec =
     tie.close
-    (tie.spec
-    (λ c. search needs)
+    (tie.spec (λ c. search needs)
     (λ c. shifted _ 32 (omega arith)))

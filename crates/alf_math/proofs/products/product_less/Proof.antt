@@ -14,15 +14,9 @@ narrow c = let n = c .before .args in four-below (2 ^ 16) (n .a) (n .b) (n .c) (
 pub product-less-spec : {M : Type 1} → statement M
 product-less-spec =
     tie.close
-    (tie.spec
-    (λ c. record { fits = narrow c .0 })
-    (λ c. record { fits = narrow c .1 })
-    (λ c κs. search needs)
+    (tie.spec (λ c. record { fits = narrow c .0 }) (λ c. record { fits = narrow c .1 }) (λ c κs. search needs)
     (λ c. record { fits = narrow (c .before) .2 })
     (λ c. record { fits = narrow (c .before) .3 })
-    (λ c κs. search needs)
-    (λ c κs. search needs)
-    (λ c κs. search needs)
-    (λ c κs. search needs)
+    (λ c κs. search needs) (λ c κs. search needs) (λ c κs. search needs) (λ c κs. search needs)
     (λ c. λ i. ltb (c .before .times .ensures .0 i) (c .times2 .ensures .0 i))
     (λ c. c .words-less .ensures ∙ (λ i. ltb (c .before .before .multiply .ensures i) (c .before .multiply2 .ensures i))))

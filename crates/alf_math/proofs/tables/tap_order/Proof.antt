@@ -11,9 +11,6 @@ pub tap-order-spec : {M : Type 1} → statement M
 unfolding tapOrder
 tap-order-spec =
     tie.close
-    (tie.spec
-    (λ c. search needs)
-    (λ c. search needs)
-    (λ c. search needs)
+    (tie.spec (λ c. search needs) (λ c. search needs) (λ c. search needs)
     (λ c. let a = c .before .args in omega (arith, each-below (a .transpose) (search needs) (a .j) (search needs)))
     (λ c. let a = c .before .args in (refl, each-below (a .transpose) (search needs) (a .j) (search needs))))

@@ -9,9 +9,4 @@ pub second-difference-spec : {M : Type 1} → statement M
 unfolding distance
 second-difference-spec =
     tie.close
-    (tie.spec
-    (λ c. search needs)
-    (λ c. search needs)
-    (λ c. search needs)
-    (λ c. omega arith)
-    (λ c. omega arith))
+    (tie.spec (λ c. search needs) (λ c. search needs) (λ c. search needs) (λ c. omega arith) (λ c. omega arith))

@@ -8,9 +8,7 @@ pub window-rows-spec : {M : Type 1} → statement M
 unfolding windowRows
 window-rows-spec =
     tie.close
-    (tie.spec
-    (λ c. search needs)
-    (λ c. search needs)
+    (tie.spec (λ c. search needs) (λ c. search needs)
     (λ c. rw (c .if1 .taken))
     (λ c. rw (c .before .if1 .left, c .if2 .taken))
     (λ c. rw (c .before .if1 .left, c .if2 .left)))

@@ -44,12 +44,7 @@ returns c =
 pub copy-numbers-spec : {M : Type 1} → statement M
 copy-numbers-spec =
     tie.close
-    (tie.spec
-    Inv-loop
-    μ-loop
+    (tie.spec Inv-loop μ-loop
     (λ c. (omega arith, fill-none (run-none _)))
     (λ c. omega arith) (λ c. omega arith) (λ c. omega arith) (λ c. omega arith) (λ c. omega arith) (λ c. omega arith) (λ c. omega arith)
-    (λ c. omega arith)
-    loop-again
-    (λ c. search needs)
-    returns)
+    (λ c. omega arith) loop-again (λ c. search needs) returns)

@@ -18,8 +18,6 @@ returns c =
 pub fixed-clip-spec : {M : Type 1} → statement M
 fixed-clip-spec =
     tie.close
-    (tie.spec
-    (λ c κs. search needs)
-    (λ c. search needs)
+    (tie.spec (λ c κs. search needs) (λ c. search needs)
     (λ c. record { sfits = omega (arith, c .top-level .ensures .1) })
     returns)

@@ -27,6 +27,4 @@ load-chroma-spec =
     tie.close
     (tie.spec
     (λ c. search needs) (λ c κs. search needs) (λ c. search needs) (λ c. search needs) (λ c. search needs)
-    load-from-aps-requires
-    (λ c. search needs)
-    returns)
+    load-from-aps-requires (λ c. search needs) returns)

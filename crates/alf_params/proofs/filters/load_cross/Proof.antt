@@ -30,6 +30,4 @@ load-cross-spec =
     (tie.spec
     (λ c. search needs) (λ c κs. search needs) (λ c. search needs) (λ c. search needs) (λ c. search needs) (λ c. search needs)
     (λ c. search needs) (λ c. search needs) (λ c. search needs)
-    load-from-aps-requires
-    (λ c. search needs)
-    returns)
+    load-from-aps-requires (λ c. search needs) returns)

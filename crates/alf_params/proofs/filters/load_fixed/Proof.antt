@@ -63,10 +63,7 @@ loop-again c =
 pub load-fixed-spec : {M : Type 1} → statement M
 load-fixed-spec =
     tie.close
-    (tie.spec
-    Inv-loop
-    μ-loop
-    (λ c κs. c .before .pre .1 .bitDepth)
+    (tie.spec Inv-loop μ-loop (λ c κs. c .before .pre .1 .bitDepth)
     (λ c. (omega arith, fill-none (run-none _)))
     (λ c. omega arith) (λ c. omega arith)
     (λ c. omega (arith, start (c .before) .pre .1 .mapCount))
@@ -75,6 +72,5 @@ load-fixed-spec =
     (λ c. omega arith) (λ c. omega arith)
     fill-requires
     (λ c. omega arith) (λ c. omega arith)
-    loop-again
-    (λ c. search needs)
+    loop-again (λ c. search needs)
     (λ c. let inv = c .before .loop .inv in rw (le-antisymm (inv .0) (c .loop-test .left)) at (inv .1)))

@@ -26,6 +26,4 @@ load-from-aps-spec =
     (tie.spec
     (λ c κs. let T = c .before .before .pre .0 in (T .inMap, T .sliceNumbers, c .before .before .pre .1))
     (λ c. search needs) (λ c. search needs) (λ c. search needs)
-    copy-numbers-requires
-    (λ c. search needs)
-    returns)
+    copy-numbers-requires (λ c. search needs) returns)

@@ -45,8 +45,4 @@ load-luma-spec =
     tie.close
     (tie.spec
     (λ c κs. search needs) (λ c. search needs) (λ c κs. search needs) (λ c. search needs)
-    load-from-aps-requires
-    (λ c. search needs)
-    returns
-    (λ c. search needs)
-    returns-2)
+    load-from-aps-requires (λ c. search needs) returns (λ c. search needs) returns-2)
