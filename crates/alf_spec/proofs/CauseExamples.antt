@@ -5,33 +5,18 @@ use mathlib.Core.Bool.{Bool, true, false}
 use mathlib.Core.List.{List, [], _∷_, map}
 use Prim.Native.Nat.{ℕ}
 use lib.ListN.{replicate}
-use Rattle.alf_spec.specs.Input.{Layout, layoutOf}
-use Rattle.alf_spec.specs.Lists.{allBelow, everyFrom}
-use Rattle.alf_spec.specs.Geometry.{ctbSize, planeOf}
-use Rattle.alf_spec.specs.Boundary.{sliceOf, subpicOf, tileColumnOf, tileRowOf, tileDisables, sliceDisables, subpicDisables}
-use Rattle.alf_spec.specs.Boundary.{stepCause, columnSide, rowSide, find, lineClip, virtualClip, sideClip, clip}
+use Rattle.alf_spec.specs.Input.{Layout, pictureOf, layoutOf}
 use Rattle.alf_spec.specs.Causes.{columnCause, rowCause, causesAt}
-use Rattle.alf_spec.specs.Faults.{pictureSizeValid, ctbSizeValid, bitDepthValid, chromaFormatValid, layoutLengthsValid, apartAt}
-use Rattle.alf_spec.specs.Faults.{virtualListValid, virtualBoundariesValid, followsAt, tileListValid, tilesValid, cornerAt}
-use Rattle.alf_spec.specs.Faults.{cornersInRow, cornersValid, slicesValid, subpicturesValid, positionValid, unless, layoutFault}
 use Rattle.alf_spec.specs.Faults.{causesFault}
 use Rattle.alf_spec.specs.Answers.{causeNumbers}
+use Rattle.alf_spec.proofs.Computed.{computedResult, computedFault}
 
 -- 64 by 64 samples, two by two CTBs of 32. The right CTBs are of another tile and subpicture than the left ones, and all but the first are
 -- of another slice. Subpicture 0, on the left, has its switch off; that of subpicture 1 is on. What varies: the tile and the slice switch,
 -- and the virtual boundaries.
 abbrev quarters : Bool → Bool → List ℕ → List ℕ → Layout
 quarters tiles slices columns rows =
-    layoutOf (record {
-      width = 64;
-      height = 64;
-      «ctb_log2» = 5;
-      «bit_depth» = 8;
-      «chroma_format» = 0;
-      «slice_count» = 2;
-      «across_tiles» = tiles;
-      «across_slices» = slices;
-    }) columns rows (0 ∷ 1 ∷ []) (0 ∷ 0 ∷ []) (0 ∷ 1 ∷ 1 ∷ 1 ∷ []) (0 ∷ 1 ∷ 0 ∷ 1 ∷ []) (0 ∷ replicate 63 1)
+    layoutOf (pictureOf 64 64 5 8 0 2 tiles slices) columns rows (0 ∷ 1 ∷ []) (0 ∷ 0 ∷ []) (0 ∷ 1 ∷ 1 ∷ 1 ∷ []) (0 ∷ 1 ∷ 0 ∷ 1 ∷ []) (0 ∷ replicate 63 1)
 
 -- by number: top, bottom, left, right
 abbrev causes : Layout → ℕ → ℕ → List ℕ
@@ -62,10 +47,7 @@ pub record CauseExamples : Type 0 where
       ∷ [] ≡ 6 ∷ 5 ∷ []
 
 pub cause-examples : CauseExamples
-unfolding allBelow everyFrom ctbSize planeOf sliceOf subpicOf tileColumnOf tileRowOf tileDisables sliceDisables subpicDisables stepCause
-    columnSide rowSide find lineClip virtualClip sideClip clip columnCause rowCause causesAt pictureSizeValid ctbSizeValid bitDepthValid
-    chromaFormatValid layoutLengthsValid apartAt virtualListValid virtualBoundariesValid followsAt tileListValid tilesValid cornerAt
-    cornersInRow cornersValid slicesValid subpicturesValid positionValid unless layoutFault causesFault
+unfolding computedResult computedFault columnCause rowCause causesAt
 cause-examples = record {
   rim = refl;
   order = refl;

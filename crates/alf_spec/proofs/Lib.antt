@@ -4,6 +4,7 @@ pub mod Answers
 pub mod Axes
 pub mod CauseExamples
 pub mod Causes
+pub mod Computed
 pub mod Examples
 pub mod Faults
 pub mod IsolatedRegions

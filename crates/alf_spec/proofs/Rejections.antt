@@ -6,18 +6,15 @@ use Prim.Native.Nat.{ℕ, _+_}
 use lib.IntN.{ℤ, pos, negsuc}
 use lib.ListN.{replicate, getD, set}
 use Rattle.alf_spec.specs.declared.Picture.{Picture}
-use Rattle.alf_spec.specs.Input.{Layout, layoutOf, classes, luma, chroma, crossComponent, Input, lumaInput, chromaInput, crossInput}
-use Rattle.alf_spec.specs.Lists.{allBelow, everyFrom}
-use Rattle.alf_spec.specs.Geometry.{ctbSize, subWidth, subHeight, planeOf}
-use Rattle.alf_spec.specs.Boundary.{sliceOf}
-use Rattle.alf_spec.specs.Parameters.{ctbParam, sliceParam}
-use Rattle.alf_spec.specs.Faults.{sizeValid, pictureSizeValid, ctbSizeValid, bitDepthValid, chromaFormatValid, componentValid}
-use Rattle.alf_spec.specs.Faults.{layoutLengthsValid, filterLengthsValid, fixedLengthsValid, lengthsValid, apartAt, virtualListValid}
-use Rattle.alf_spec.specs.Faults.{virtualBoundariesValid, followsAt, tileListValid, tilesValid, cornerAt, cornersInRow, cornersValid}
-use Rattle.alf_spec.specs.Faults.{slicesValid, subpicturesValid, sliceParamsValid, ctbRangesValid, ctbChromaZero, ctbParamsValidAt}
-use Rattle.alf_spec.specs.Faults.{parametersValid, coeffValid, clipValid, isClip, bankNumberValid, bankValid, fixedValid}
-use Rattle.alf_spec.specs.Faults.{samplesValid, addressesValid, regionLengthValid, regionValid, unless, layoutFault, tablesFault}
+use Rattle.alf_spec.specs.Input.{Layout, layoutOf, classes, luma, chroma, crossComponent}
+use Rattle.alf_spec.specs.Input.{Input, inputOf, lumaInput, chromaInput, crossInput}
+use Rattle.alf_spec.specs.Faults.{sizeValid, ctbSizeValid, bitDepthValid, chromaFormatValid}
+use Rattle.alf_spec.specs.Faults.{layoutLengthsValid, lengthsValid, virtualListValid}
+use Rattle.alf_spec.specs.Faults.{virtualBoundariesValid, tilesValid}
+use Rattle.alf_spec.specs.Faults.{slicesValid, subpicturesValid}
+use Rattle.alf_spec.specs.Faults.{parametersValid, bankNumberValid}
 use Rattle.alf_spec.specs.Faults.{fault, isolationFault}
+use Rattle.alf_spec.proofs.Computed.{computedFault}
 use Rattle.alf_spec.proofs.Examples.{picture, layout}
 
 -- ---- a picture of two by two CTBs of 32, of which a number or a list can be chosen
@@ -36,18 +33,8 @@ abbrev plain : Picture → Layout
 plain p = mapped p [] (0 ∷ 0 ∷ []) (replicate 4 0) (replicate 4 0) (replicate 64 1)
 
 abbrev smallInput : Layout → List ℕ → List ℕ → List ℤ → List ℕ → List ℕ → ℕ → Input
-smallInput l sliceParams ctbParams bank plane list outputLength = record {
-  layout = l;
-  luma = plane;
-  chroma = replicate 400 0;
-  sliceParams = sliceParams;
-  bank = bank;
-  ctbParams = ctbParams;
-  ctbList = list;
-  fixedFilters = replicate 768 (pos 0);
-  fixedMap = replicate 400 63;
-  outputLength = outputLength;
-}
+smallInput l sliceParams ctbParams bank plane list outputLength =
+    inputOf l plane (replicate 400 0) sliceParams bank ctbParams list (replicate 768 (pos 0)) (replicate 400 63) outputLength
 
 abbrev zeros : ℕ → List ℕ
 zeros n = replicate n 0
@@ -182,11 +169,7 @@ pub record Rejections : Type 0 where
   pub lowest : fault luma (smallInput (plain (sized 12 8 13 2 0)) [] [] [] [] (9 ∷ []) 0) ≡ 1
 
 pub rejections : Rejections
-unfolding allBelow everyFrom ctbSize subWidth subHeight planeOf sliceOf ctbParam sliceParam pictureSizeValid ctbSizeValid bitDepthValid
-    chromaFormatValid componentValid layoutLengthsValid filterLengthsValid fixedLengthsValid lengthsValid apartAt virtualListValid
-    virtualBoundariesValid followsAt tileListValid tilesValid cornerAt cornersInRow cornersValid slicesValid subpicturesValid
-    sliceParamsValid ctbRangesValid ctbChromaZero ctbParamsValidAt parametersValid coeffValid clipValid isClip bankNumberValid bankValid
-    fixedValid samplesValid addressesValid regionLengthValid regionValid unless layoutFault tablesFault fault isolationFault
+unfolding computedFault
 rejections = record {
   accepts = refl;
   accepts-chroma = refl;

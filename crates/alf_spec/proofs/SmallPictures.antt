@@ -8,22 +8,13 @@ use Prim.Native.Nat.{ℕ, zero, suc, _+_, _*_, _/_, _%_}
 use lib.IntN.{pos, _-ℤ_}
 use lib.Dec.{leb, ltb}
 use lib.ListN.{replicate}
-use Rattle.alf_spec.specs.Input.{Input, classes}
-use Rattle.alf_spec.specs.Lists.{allBelow, everyFrom, elem, sumBelow, sumBelowℤ, tabulate, painted}
-use Rattle.alf_spec.specs.Arithmetic.{clip3, distance, rounded, clipSample, clippedChange, tap, tapSum, filtered}
-use Rattle.alf_spec.specs.Geometry.{lumaPlane, ctbSize, subWidth, subHeight, planeOf, lineRule, bottomDistance}
-use Rattle.alf_spec.specs.Boundary.{sliceOf, subpicOf, tileColumnOf, tileRowOf, tileDisables, sliceDisables, subpicDisables}
-use Rattle.alf_spec.specs.Boundary.{stepCause, columnSide, rowSide, cornerDisabled, find, lineClip, virtualClip, sideClip, clip}
-use Rattle.alf_spec.specs.Boundary.{clipPosition}
-use Rattle.alf_spec.specs.Padding.{columnClip, rowClip, pastCorner, paddedColumn, paddedRow, read}
-use Rattle.alf_spec.specs.Parameters.{ctbParam, sliceParam, bankNumber, fixedCoeff}
-use Rattle.alf_spec.specs.Classes.{classWindow, filtH, filtV, filtD0, filtD1, windowRows, windowSum, windowSums, larger, diagonal}
-use Rattle.alf_spec.specs.Classes.{mainGradient, otherGradient, strength, activity, transposeIdx, filtIdx, classOfSums, classOf}
-use Rattle.alf_spec.specs.Classes.{blockClass}
-use Rattle.alf_spec.specs.Luma.{lumaF, lumaC, tapOrder, lumaRows, lumaPlus, lumaMinus, lumaWith, lumaSample}
-use Rattle.alf_spec.specs.Chroma.{chromaRows, chromaPlus, chromaMinus, chromaWith, chromaSample}
-use Rattle.alf_spec.specs.CrossComponent.{crossRows, crossTaps, crossSum, corrected, crossWith, crossSample}
-use Rattle.alf_spec.specs.Process.{classAt, classMap, lumaOn, isFiltered, atIndex, filteredPlane, result}
+use Rattle.alf_spec.specs.Input.{Input, lumaInput, classes}
+use Rattle.alf_spec.specs.Geometry.{lumaPlane}
+use Rattle.alf_spec.specs.Luma.{lumaSample}
+use Rattle.alf_spec.specs.Chroma.{chromaSample}
+use Rattle.alf_spec.specs.CrossComponent.{crossSample}
+use Rattle.alf_spec.specs.Process.{classAt, lumaOn, isFiltered, result}
+use Rattle.alf_spec.proofs.Computed.{computedResult}
 use Rattle.alf_spec.proofs.Examples.{picture, layout}
 use Rattle.alf_spec.proofs.WorkedExamples.{grid, input}
 
@@ -67,18 +58,10 @@ ctb444 = ctb32 3 32 32
 -- ---- two CTBs side by side, 64 by 8 luma samples, with luma flags and a list
 
 abbrev twoCtbs : ℕ → ℕ → List ℕ → Input
-twoCtbs flag0 flag1 list = record {
-  layout = grid 2 1 64 8 (0 ∷ 0 ∷ []);
-  luma = replicate 512 0;
-  chroma = [];
-  sliceParams = replicate 22 0;
-  bank = replicate 6016 (pos 0);
-  ctbParams = (flag0 ∷ replicate 7 0) ++ (flag1 ∷ replicate 7 0);
-  ctbList = list;
-  fixedFilters = replicate 768 (pos 0);
-  fixedMap = replicate 400 0;
-  outputLength = 512;
-}
+twoCtbs flag0 flag1 list =
+    let ctbParams : List ℕ = (flag0 ∷ replicate 7 0) ++ (flag1 ∷ replicate 7 0) in
+    lumaInput (grid 2 1 64 8 (0 ∷ 0 ∷ [])) (replicate 22 0) (replicate 6016 (pos 0)) ctbParams list (replicate 768 (pos 0))
+    (replicate 400 0) (replicate 512 0) 512
 
 -- whether the last sample of CTB 0 and the first of CTB 1, in rows 0 and 1, are filtered
 abbrev filteredAt : Input → List Bool
@@ -103,13 +86,7 @@ pub record SmallPictures : Type 0 where
   pub flag-off : filteredAt (twoCtbs 1 0 (1 ∷ 0 ∷ [])) ≡ true ∷ false ∷ true ∷ false ∷ []
 
 pub small-pictures : SmallPictures
-unfolding allBelow everyFrom elem sumBelow sumBelowℤ tabulate painted clip3 distance rounded clipSample clippedChange tap tapSum filtered
-    ctbSize subWidth subHeight planeOf lineRule bottomDistance sliceOf subpicOf tileColumnOf tileRowOf tileDisables sliceDisables
-    subpicDisables stepCause columnSide rowSide cornerDisabled find lineClip virtualClip sideClip clip clipPosition columnClip rowClip
-    paddedRow pastCorner paddedColumn read ctbParam sliceParam bankNumber fixedCoeff classWindow filtH filtV filtD0 filtD1 windowRows
-    windowSum windowSums larger diagonal mainGradient otherGradient strength activity transposeIdx filtIdx classOfSums classOf blockClass
-    lumaF lumaC tapOrder lumaRows lumaPlus lumaMinus lumaWith lumaSample chromaRows chromaPlus chromaMinus chromaWith chromaSample
-    crossRows crossTaps crossSum corrected crossWith crossSample classAt classMap lumaOn isFiltered atIndex filteredPlane result
+unfolding computedResult
 small-pictures = record {
   class-map = refl;
   line-classes = refl;

@@ -62,6 +62,10 @@ pub cond-either : {A : Type 0} (P : A → Type 0) (b : Bool) (x y : A) → P x �
 cond-either P true x y p q = p
 cond-either P false x y p q = q
 
+-- what holds of each of three that two tests choose from
+pub cond-three : {A : Type 0} (P : A → Type 0) (a b : Bool) (x y z : A) → P x → P y → P z → P (cond a x (cond b y z))
+cond-three P a b x y z p q r = cond-either P a x (cond b y z) p (cond-either P b y z q r)
+
 pub within-bounds : (low high n : ℕ) → within low high n ≡ true → (low ≤ n) × (n ≤ high)
 within-bounds low high n e = let h = both (leb low n) (leb n high) e in (leb-true low n (h .0), leb-true n high (h .1))
 

@@ -8,19 +8,14 @@ use Prim.Native.Nat.{ℕ, _*_}
 use lib.IntN.{ℤ, pos, negsuc}
 use lib.ListN.{replicate}
 use Rattle.alf_spec.specs.declared.Class.{Class}
-use Rattle.alf_spec.specs.Lists.{everyFrom, allBelow, elem, sumBelow, sumBelowℤ, tabulate, painted}
-use Rattle.alf_spec.specs.Arithmetic.{clip3, distance, rounded, clipSample, clippedChange, tap, tapSum, filtered}
-use Rattle.alf_spec.specs.Input.{Layout, Input}
-use Rattle.alf_spec.specs.Geometry.{Side, before, after, ctbSize, planeOf, lumaPlane, ctbAt, lineRule, bottomDistance}
-use Rattle.alf_spec.specs.Boundary.{sliceOf, subpicOf, tileColumnOf, tileRowOf, tileDisables, sliceDisables, subpicDisables}
-use Rattle.alf_spec.specs.Boundary.{stepCause, columnSide, rowSide, cornerDisabled, find, lineClip, virtualClip, sideClip, clip}
-use Rattle.alf_spec.specs.Boundary.{clipPosition}
-use Rattle.alf_spec.specs.Padding.{columnClip, rowClip, pastCorner, paddedColumn, paddedRow, read}
-use Rattle.alf_spec.specs.Parameters.{ctbParam, sliceParam, bankNumber, fixedCoeff}
-use Rattle.alf_spec.specs.Classes.{classWindow, filtH, filtV, filtD0, filtD1, windowRows, windowSum, windowSums, larger, diagonal}
-use Rattle.alf_spec.specs.Classes.{mainGradient, otherGradient, strength, activity, transposeIdx, filtIdx, classOfSums, classOf}
+use Rattle.alf_spec.specs.Arithmetic.{rounded}
+use Rattle.alf_spec.specs.Input.{Layout, Input, lumaInput}
+use Rattle.alf_spec.specs.Geometry.{Side, before, after, lumaPlane, ctbAt, lineRule}
+use Rattle.alf_spec.specs.Padding.{rowClip, paddedColumn, paddedRow}
+use Rattle.alf_spec.specs.Classes.{activity, classOfSums}
 use Rattle.alf_spec.specs.Classes.{blockClass}
-use Rattle.alf_spec.specs.Luma.{lumaF, lumaC, tapOrder, lumaRows, lumaPlus, lumaMinus, lumaWith, lumaSample}
+use Rattle.alf_spec.specs.Luma.{lumaC, lumaSample}
+use Rattle.alf_spec.proofs.Computed.{computedResult}
 use Rattle.alf_spec.proofs.Examples.{picture, layout, repeated}
 
 -- ---- what the examples are about; what 01 leaves open in one is chosen here
@@ -63,18 +58,10 @@ coefficients = replicate 11 (pos 0) ++ (pos 64 ∷ [])
 
 -- that plane, with a luma set and a bank whose luma clips are all c
 abbrev pub input : ℕ → ℕ → Input
-input set c = record {
-  layout = grid 1 1 8 8 (0 ∷ []);
-  luma = plane;
-  chroma = [];
-  sliceParams = 1 ∷ replicate 21 0;
-  bank = repeated 8 (repeated 25 (coefficients ++ replicate 12 (pos c)) ++ replicate 152 (pos 0));
-  ctbParams = 1 ∷ 0 ∷ 0 ∷ set ∷ 0 ∷ 0 ∷ 0 ∷ 0 ∷ [];
-  ctbList = 0 ∷ [];
-  fixedFilters = repeated 64 coefficients;
-  fixedMap = replicate 400 0;
-  outputLength = 64;
-}
+input set c =
+    let bank : List ℤ = repeated 8 (repeated 25 (coefficients ++ replicate 12 (pos c)) ++ replicate 152 (pos 0)) in
+    let ctbParams : List ℕ = 1 ∷ 0 ∷ 0 ∷ set ∷ 0 ∷ 0 ∷ 0 ∷ 0 ∷ [] in
+    lumaInput (grid 1 1 8 8 (0 ∷ [])) (1 ∷ replicate 21 0) bank ctbParams (0 ∷ []) (repeated 64 coefficients) (replicate 400 0) plane 64
 
 -- ---- the claim
 
@@ -105,12 +92,7 @@ pub record WorkedExamples : Type 0 where
   pub P12-fixed : lumaSample (input 0 0) 3 1 ≡ 12
 
 pub worked-examples : WorkedExamples
-unfolding everyFrom allBelow elem sumBelow sumBelowℤ tabulate painted clip3 distance rounded clipSample clippedChange tap tapSum filtered
-    ctbSize planeOf lineRule bottomDistance sliceOf subpicOf tileColumnOf tileRowOf tileDisables sliceDisables subpicDisables stepCause
-    columnSide rowSide cornerDisabled find lineClip virtualClip sideClip clip clipPosition columnClip rowClip paddedRow pastCorner
-    paddedColumn read ctbParam sliceParam bankNumber fixedCoeff classWindow filtH filtV filtD0 filtD1 windowRows windowSum windowSums
-    larger diagonal mainGradient otherGradient strength activity transposeIdx filtIdx classOfSums classOf blockClass lumaF lumaC tapOrder
-    lumaRows lumaPlus lumaMinus lumaWith lumaSample
+unfolding computedResult
 worked-examples = record {
   P1 = refl;
   P2 = refl;

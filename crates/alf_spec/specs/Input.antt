@@ -19,6 +19,19 @@ pub record Layout : Type 0 where
   -- by subpicture: 1 filters across its sides
   pub subpicAcross : List ℕ
 
+-- the picture of these numbers and switches, in the order in which they are passed
+abbrev pub pictureOf : ℕ → ℕ → ℕ → ℕ → ℕ → ℕ → Bool → Bool → Picture
+pictureOf width height ctbLog2 bitDepth chromaFormat sliceCount acrossTiles acrossSlices = record {
+  width = width;
+  height = height;
+  «ctb_log2» = ctbLog2;
+  «bit_depth» = bitDepth;
+  «chroma_format» = chromaFormat;
+  «slice_count» = sliceCount;
+  «across_tiles» = acrossTiles;
+  «across_slices» = acrossSlices;
+}
+
 -- the layout of these parts, in the order in which every operation is given them
 abbrev pub layoutOf : Picture → List ℕ → List ℕ → List ℕ → List ℕ → List ℕ → List ℕ → List ℕ → Layout
 layoutOf picture virtualColumns virtualRows tileColumns tileRows sliceMap subpicMap subpicAcross = record {

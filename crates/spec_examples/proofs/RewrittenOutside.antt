@@ -10,25 +10,15 @@ use lib.IntN.{ℤ, pos}
 use lib.Dec.{eqb}
 use lib.ListN.{getD, replicate}
 use borrow.Author.Tests.{eqb-true, ltb-true}
-use Rattle.alf_spec.specs.Lists.{implies, allBelow, everyFrom, elem, sumBelow, sumBelowℤ, tabulate, painted}
-use Rattle.alf_spec.specs.Arithmetic.{clip3, distance, rounded, clipSample, clippedChange, tap, tapSum, filtered}
-use Rattle.alf_spec.specs.Input.{Layout, luma, Input}
-use Rattle.alf_spec.specs.Geometry.{ctbSize, planeOf, lumaPlane, indexOf, ctbAt, address, lineRule, bottomDistance}
-use Rattle.alf_spec.specs.Boundary.{sliceOf, subpicOf, tileColumnOf, tileRowOf, tileDisables, sliceDisables, subpicDisables, stepCause}
-use Rattle.alf_spec.specs.Boundary.{columnSide, rowSide, cornerDisabled, find, lineClip, virtualClip, sideClip, clip, clipPosition}
-use Rattle.alf_spec.specs.Padding.{columnClip, rowClip, paddedRow, pastCorner, paddedColumn, read}
-use Rattle.alf_spec.specs.Parameters.{ctbParam, sliceParam, bankNumber, fixedCoeff}
-use Rattle.alf_spec.specs.Classes.{classWindow, filtH, filtV, filtD0, filtD1, windowRows, windowSum, windowSums, larger, diagonal}
-use Rattle.alf_spec.specs.Classes.{mainGradient, otherGradient, strength, activity, transposeIdx, filtIdx, classOfSums, classOf, blockClass}
-use Rattle.alf_spec.specs.Luma.{lumaF, lumaC, tapOrder, lumaRows, lumaPlus, lumaMinus, lumaWith, lumaSample}
-use Rattle.alf_spec.specs.Process.{lumaOn, isFiltered, atIndex, filteredPlane, result}
-use Rattle.alf_spec.specs.Faults.{pictureSizeValid, ctbSizeValid, bitDepthValid, chromaFormatValid, componentValid, layoutLengthsValid}
-use Rattle.alf_spec.specs.Faults.{filterLengthsValid, fixedLengthsValid, lengthsValid, apartAt, virtualListValid, virtualBoundariesValid}
-use Rattle.alf_spec.specs.Faults.{followsAt, tileListValid, tilesValid, cornerAt, cornersInRow, cornersValid, slicesValid, subpicturesValid}
-use Rattle.alf_spec.specs.Faults.{sliceParamsValid, ctbRangesValid, ctbChromaZero, ctbParamsValidAt, parametersValid, coeffValid, clipValid}
-use Rattle.alf_spec.specs.Faults.{isClip, bankNumberValid, bankValid, fixedValid, samplesValid, addressesValid, unless, layoutFault}
-use Rattle.alf_spec.specs.Faults.{tablesFault, fault}
+use Rattle.alf_spec.specs.Lists.{implies, allBelow, elem, tabulate}
+use Rattle.alf_spec.specs.Input.{Layout, luma, Input, lumaInput}
+use Rattle.alf_spec.specs.Geometry.{ctbSize, planeOf, lumaPlane, indexOf, ctbAt, address}
+use Rattle.alf_spec.specs.Boundary.{subpicOf}
+use Rattle.alf_spec.specs.Parameters.{ctbParam}
+use Rattle.alf_spec.specs.Process.{result}
+use Rattle.alf_spec.specs.Faults.{fault}
 use Rattle.alf_spec.specs.Isolation.{inside, regionOf, subpicRegion, outputInside}
+use Rattle.alf_spec.proofs.Computed.{computedResult, computedFault}
 use Rattle.alf_spec.proofs.Tests.{implied, all-at}
 use Rattle.alf_spec.proofs.Examples.{repeated}
 use Rattle.alf_spec.proofs.IsolatedRegions.Inside.{Inside}
@@ -49,18 +39,9 @@ coefficients = replicate 6 (pos 0) ++ (pos 64 ∷ []) ++ replicate 5 (pos 0)
 
 -- the left CTB is filtered; of the right one flag and set are given
 abbrev input : Layout → ℕ → ℕ → ℕ → List ℕ → Input
-input l right flag set list = record {
-  layout = l;
-  luma = picture right;
-  chroma = [];
-  sliceParams = replicate 11 0;
-  bank = replicate 6016 (pos 0);
-  ctbParams = 1 ∷ 0 ∷ 0 ∷ 0 ∷ 0 ∷ 0 ∷ 0 ∷ 0 ∷ flag ∷ 0 ∷ 0 ∷ set ∷ 0 ∷ 0 ∷ 0 ∷ 0 ∷ [];
-  ctbList = list;
-  fixedFilters = repeated 64 coefficients;
-  fixedMap = replicate 400 0;
-  outputLength = 512;
-}
+input l right flag set list =
+    let ctbParams : List ℕ = 1 ∷ 0 ∷ 0 ∷ 0 ∷ 0 ∷ 0 ∷ 0 ∷ 0 ∷ flag ∷ 0 ∷ 0 ∷ set ∷ 0 ∷ 0 ∷ 0 ∷ 0 ∷ [] in
+    lumaInput l (replicate 11 0) (replicate 6016 (pos 0)) ctbParams list (repeated 64 coefficients) (replicate 400 0) (picture right) 512
 
 abbrev before : Layout → Input
 before l = input l 0 0 0 (0 ∷ [])
@@ -76,11 +57,7 @@ abbrev second : Input
 second = after twoSubpictures
 
 accepts : (fault luma first ≡ 0) × (fault luma second ≡ 0)
-unfolding allBelow everyFrom ctbSize planeOf sliceOf ctbParam sliceParam pictureSizeValid ctbSizeValid bitDepthValid chromaFormatValid
-    componentValid layoutLengthsValid filterLengthsValid fixedLengthsValid lengthsValid apartAt virtualListValid virtualBoundariesValid
-    followsAt tileListValid tilesValid cornerAt cornersInRow cornersValid slicesValid subpicturesValid sliceParamsValid ctbRangesValid
-    ctbChromaZero ctbParamsValidAt parametersValid coeffValid clipValid isClip bankNumberValid bankValid fixedValid samplesValid
-    addressesValid unless layoutFault tablesFault fault
+unfolding computedFault
 accepts = (refl, refl)
 
 -- what a computed test of every sample inside says of one
@@ -139,12 +116,7 @@ pub record RewrittenOutside : Type 0 where
   pub differ-if-open : getD (result luma (before (subpictures 1))) 31 0 ∷ getD (result luma (after (subpictures 1))) 31 0 ∷ [] ≡ 0 ∷ 50 ∷ []
 
 pub rewritten-outside : RewrittenOutside
-unfolding everyFrom allBelow elem sumBelow sumBelowℤ tabulate painted clip3 distance rounded clipSample clippedChange tap tapSum filtered
-    ctbSize planeOf lineRule bottomDistance sliceOf subpicOf tileColumnOf tileRowOf tileDisables sliceDisables subpicDisables stepCause
-    columnSide rowSide cornerDisabled find lineClip virtualClip sideClip clip clipPosition columnClip rowClip paddedRow pastCorner
-    paddedColumn read ctbParam sliceParam bankNumber fixedCoeff classWindow filtH filtV filtD0 filtD1 windowRows windowSum windowSums
-    larger diagonal mainGradient otherGradient strength activity transposeIdx filtIdx classOfSums classOf blockClass lumaF lumaC tapOrder
-    lumaRows lumaPlus lumaMinus lumaWith lumaSample lumaOn isFiltered atIndex filteredPlane result
+unfolding computedResult
 rewritten-outside = record { filtered-inside = refl; differ-outside = refl; differ-if-open = refl }
 
 -- the left switch is off, and by the isolation claim nothing that was rewritten has an effect inside, beside the border

@@ -6,20 +6,14 @@ use mathlib.Core.List.{List, [], _∷_, map}
 use mathlib.Core.Option.{Option, some, none}
 use Prim.Native.Nat.{ℕ}
 use lib.ListN.{replicate, getD}
-use Rattle.alf_spec.specs.Input.{Layout, layoutOf, classes}
-use Rattle.alf_spec.specs.Lists.{allBelow, everyFrom, elem, tabulate}
-use Rattle.alf_spec.specs.Geometry.{Side, before, after, ctbSize, subWidth, subHeight, planeOf, lumaPlane, chromaPlane}
-use Rattle.alf_spec.specs.Boundary.{sliceOf, subpicOf, tileColumnOf, tileRowOf, tileDisables, sliceDisables, subpicDisables}
-use Rattle.alf_spec.specs.Boundary.{stepCause, columnSide, rowSide, cornerDisabled, find, lineClip, virtualClip, sideClip, clip}
-use Rattle.alf_spec.specs.Boundary.{clipPosition}
-use Rattle.alf_spec.specs.Padding.{columnClip, rowClip, pastCorner, paddedColumn, paddedRow, read}
+use Rattle.alf_spec.specs.Input.{Layout, pictureOf, layoutOf, classes}
+use Rattle.alf_spec.specs.Geometry.{Side, before, after, lumaPlane, chromaPlane}
+use Rattle.alf_spec.specs.Padding.{rowClip, paddedColumn, paddedRow}
 use Rattle.alf_spec.specs.Classes.{classWindow}
 use Rattle.alf_spec.specs.Isolation.{openStep, columnStep, rowStep, diagonalStep, inside, staysInside, isolated, regionOf}
 use Rattle.alf_spec.specs.Isolation.{sliceRegion, tileRegion, subpicRegion, outputInside}
-use Rattle.alf_spec.specs.Faults.{pictureSizeValid, ctbSizeValid, bitDepthValid, chromaFormatValid, layoutLengthsValid}
-use Rattle.alf_spec.specs.Faults.{virtualListValid, virtualBoundariesValid, followsAt, tileListValid, tilesValid, cornerAt}
-use Rattle.alf_spec.specs.Faults.{cornersInRow, cornersValid, slicesValid, subpicturesValid, regionLengthValid, regionValid, unless}
-use Rattle.alf_spec.specs.Faults.{layoutFault, isolationFault}
+use Rattle.alf_spec.specs.Faults.{isolationFault}
+use Rattle.alf_spec.proofs.Computed.{computedResult, computedFault}
 use Rattle.alf_spec.proofs.Examples.{picture, layout}
 use Rattle.alf_spec.proofs.IsolatedRegions.SmallRegions.{twoSubpictures, twoBlocks}
 
@@ -43,17 +37,7 @@ stackedSlices = layout (picture 8 40 5 8 0 2) [] (0 ∷ []) (0 ∷ 0 ∷ []) (0 
 
 -- in two tiles, with the tile switch off
 abbrev stackedTiles : Layout
-stackedTiles =
-    layout (record {
-      width = 8;
-      height = 40;
-      «ctb_log2» = 5;
-      «bit_depth» = 8;
-      «chroma_format» = 0;
-      «slice_count» = 1;
-      «across_tiles» = false;
-      «across_slices» = true;
-    }) [] (0 ∷ []) (0 ∷ 1 ∷ []) (0 ∷ 0 ∷ []) (0 ∷ 0 ∷ []) (replicate 64 1)
+stackedTiles = layout (pictureOf 8 40 5 8 0 1 false true) [] (0 ∷ []) (0 ∷ 1 ∷ []) (0 ∷ 0 ∷ []) (0 ∷ 0 ∷ []) (replicate 64 1)
 
 -- two CTBs one below the other in a chroma format, with virtual rows
 abbrev formatted : ℕ → List ℕ → Layout
@@ -117,12 +101,8 @@ pub record Borders : Type 0 where
   pub classes-inside : map (outputInside classes twoSubpictures (subpicRegion twoSubpictures 0)) (7 ∷ 8 ∷ []) ≡ true ∷ false ∷ []
 
 pub borders : Borders
-unfolding allBelow everyFrom elem tabulate ctbSize subWidth subHeight planeOf sliceOf subpicOf tileColumnOf tileRowOf tileDisables
-    sliceDisables subpicDisables stepCause columnSide rowSide cornerDisabled find lineClip virtualClip sideClip clip clipPosition columnClip
-    rowClip pastCorner paddedColumn paddedRow read classWindow openStep columnStep rowStep diagonalStep inside staysInside isolated
-    regionOf sliceRegion tileRegion subpicRegion outputInside pictureSizeValid ctbSizeValid bitDepthValid chromaFormatValid
-    layoutLengthsValid virtualListValid virtualBoundariesValid followsAt tileListValid tilesValid cornerAt cornersInRow cornersValid
-    slicesValid subpicturesValid regionLengthValid regionValid unless layoutFault isolationFault
+unfolding computedResult computedFault openStep columnStep rowStep diagonalStep inside staysInside isolated regionOf sliceRegion tileRegion
+    subpicRegion outputInside
 borders = record {
   virtual-before = refl;
   virtual-after = refl;

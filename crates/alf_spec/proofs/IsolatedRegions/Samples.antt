@@ -8,7 +8,7 @@ use Rattle.alf_spec.specs.declared.Ctb.{Ctb}
 use Rattle.alf_spec.specs.declared.Class.{Class}
 use Rattle.alf_spec.specs.Lists.{elem}
 use Rattle.alf_spec.specs.Arithmetic.{distance, tapSum, filtered}
-use Rattle.alf_spec.specs.Input.{Layout, Input}
+use Rattle.alf_spec.specs.Input.{Layout, Input, inputOf}
 use Rattle.alf_spec.specs.Geometry.{Plane, subWidth, subHeight, planeOf, lumaPlane, chromaPlane, lumaPosition, ctbAt, address}
 use Rattle.alf_spec.specs.Padding.{read}
 use Rattle.alf_spec.specs.Parameters.{ctbParam, sliceParam, bankNumber, fixedCoeff}
@@ -75,18 +75,9 @@ block-inside l region x y s =
 
 -- the input with this layout
 abbrev pub atLayout : Layout → Input → Input
-atLayout l i = record {
-  layout = l;
-  luma = i .luma;
-  chroma = i .chroma;
-  sliceParams = i .sliceParams;
-  bank = i .bank;
-  ctbParams = i .ctbParams;
-  ctbList = i .ctbList;
-  fixedFilters = i .fixedFilters;
-  fixedMap = i .fixedMap;
-  outputLength = i .outputLength;
-}
+atLayout l i =
+    inputOf l (i .luma) (i .chroma) (i .sliceParams) (i .bank) (i .ctbParams) (i .ctbList) (i .fixedFilters) (i .fixedMap)
+    (i .outputLength)
 
 -- the filters' tables are the same for a CTB
 pub record SameFilters (i j : Input) (c : Ctb) : Type 0 where

@@ -9,7 +9,7 @@ use Rattle.alf_spec.specs.Arithmetic.{distance}
 use Rattle.alf_spec.specs.Luma.{lumaRows, lumaPlus, lumaMinus}
 use Rattle.alf_spec.specs.Chroma.{chromaRows, chromaPlus, chromaMinus}
 use Rattle.alf_spec.specs.CrossComponent.{crossRows, crossTaps}
-use Rattle.alf_spec.proofs.Tests.{cond-either}
+use Rattle.alf_spec.proofs.Tests.{cond-either, cond-three}
 use Rattle.alf_spec.proofs.Lists.{Each}
 
 -- at most n from (x, y) along each axis
@@ -25,8 +25,7 @@ pub luma-offsets : (line : Bool) (d : ℕ) → LumaOffsets (lumaRows line d)
 unfolding lumaRows
 luma-offsets line d =
     cond-either LumaOffsets (line && _) _ _ (omega arith)
-    (cond-either LumaOffsets (line && _) _ _ (omega arith)
-    (cond-either LumaOffsets (line && _) _ _ (omega arith) (omega arith)))
+    (cond-three LumaOffsets (line && _) (line && _) _ _ _ (omega arith) (omega arith) (omega arith))
 
 pub luma-taps : (x y : ℕ) (r : LumaRows) → LumaOffsets r → Each (Around 3 x y) (lumaPlus x y r) × Each (Around 3 x y) (lumaMinus x y r)
 unfolding lumaPlus lumaMinus distance
@@ -38,9 +37,7 @@ ChromaOffsets r = (r .y1 ≤ 2) × (r .y2 ≤ 2)
 
 pub chroma-offsets : (line : Bool) (d : ℕ) → ChromaOffsets (chromaRows line d)
 unfolding chromaRows
-chroma-offsets line d =
-    cond-either ChromaOffsets (line && _) _ _ (omega arith)
-    (cond-either ChromaOffsets (line && _) _ _ (omega arith) (omega arith))
+chroma-offsets line d = cond-three ChromaOffsets (line && _) (line && _) _ _ _ (omega arith) (omega arith) (omega arith)
 
 pub chroma-taps : (x y : ℕ) (r : ChromaRows) → ChromaOffsets r → Each (Around 2 x y) (chromaPlus x y r)
     × Each (Around 2 x y) (chromaMinus x y r)
@@ -53,9 +50,7 @@ CrossOffsets r = (r .y1 ≤ 3) × (r .y2 ≤ 3)
 
 pub cross-offsets : (line : Bool) (d : ℕ) → CrossOffsets (crossRows line d)
 unfolding crossRows
-cross-offsets line d =
-    cond-either CrossOffsets (line && _) _ _ (omega arith)
-    (cond-either CrossOffsets (line && _) _ _ (omega arith) (omega arith))
+cross-offsets line d = cond-three CrossOffsets (line && _) (line && _) _ _ _ (omega arith) (omega arith) (omega arith)
 
 pub cross-taps : (x y : ℕ) (r : CrossRows) → CrossOffsets r → Each (Around 3 x y) (crossTaps x y r)
 unfolding crossTaps distance

@@ -1,19 +1,13 @@
 -- `alf_math::clipping::clip_sample` meets its contract: what the clip gives is a level. Assumes nothing.
-use Prim.Native.Nat.{_<_, _^_}
 use native.Mathlib.Omega.{arith}
-use mir.Facts.{toZ-ofZ}
 use mir.Syntax.{w32}
 use borrow.Author.Needs.{needs}
-use Rattle.alf_math.proofs.Magnitude.{back}
-use Rattle.alf_math.proofs.Clips.{Level, level-of}
+use Rattle.alf_math.proofs.Clips.{Level, level-clipped}
 use Rattle.alf_math.proofs.clipping.clip_sample.Statement.{statement}
 use Rattle.alf_math.proofs.clipping.clip_sample.Tie as tie
 
 level : (c : tie.After-clip) → let a = c .before .before .args in Level w32 (c .clip .result) (a .depth) (a .v)
-level c =
-    let small : c .before .top-level .result < 2 ^ 31 = omega arith in
-    let clipped = simp (toZ-ofZ, back w32, c .before .before .fits .v) at (c .clip .ensures) in
-    level-of w32 _ (c .clip .ok) clipped (c .before .top-level .ensures)
+level c = level-clipped w32 _ (omega arith) (c .before .before .fits .v) (c .clip .ok) (c .clip .ensures) (c .before .top-level .ensures)
 
 pub clip-sample-spec : {M : Type 1} → statement M
 clip-sample-spec =
