@@ -20,11 +20,7 @@ named c =
 pub clip-causes-spec : {M : Type 1} → statement M
 clip-causes-spec =
     tie.close
-    (tie.spec
-    (λ c κs. search needs)
-    (λ c. search needs)
-    rejected
-    (λ c. search needs)
+    (tie.spec (λ c κs. search needs) (λ c. search needs) rejected (λ c. search needs)
     (λ c κs.
     let judged : tie.After-judge-causes = search needs in
     accepts (judged .judge-causes .result) (judged .judge-causes .ensures) (c .enum-told .given .1))

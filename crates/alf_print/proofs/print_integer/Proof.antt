@@ -52,11 +52,7 @@ cast-print-decimal-2 c =
 pub print-integer-spec : {M : Type 1} → statement M
 print-integer-spec =
     tie.close
-    (tie.spec
-    cast-wide
+    (tie.spec cast-wide
     (λ c. search needs) (λ c κs. search needs)
-    sub-print-decimal
-    cast-print-decimal
-    (λ c κs. search needs)
-    cast-print-decimal-2
+    sub-print-decimal cast-print-decimal (λ c κs. search needs) cast-print-decimal-2
     (λ c κs. search needs) (λ c. search needs) (λ c. search needs))

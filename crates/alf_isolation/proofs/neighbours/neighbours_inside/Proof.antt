@@ -25,11 +25,5 @@ neighbours-inside-spec =
     tie.close
     (tie.spec
     (λ c κs. search needs) (λ c κs. search needs) (λ c κs. search needs) (λ c κs. search needs) (λ c. search needs)
-    (λ c κs. (search needs, search upper-left))
-    (λ c. search needs)
-    (λ c κs. search lower-left)
-    (λ c. search needs)
-    (λ c κs. (search needs, search upper-right))
-    (λ c. search needs)
-    (λ c κs. search lower-right)
-    returns)
+    (λ c κs. (search needs, search upper-left)) (λ c. search needs) (λ c κs. search lower-left) (λ c. search needs)
+    (λ c κs. (search needs, search upper-right)) (λ c. search needs) (λ c κs. search lower-right) returns)

@@ -16,8 +16,6 @@ abbrev μ-loop : tie.MeasureT-loop
 pub run-passes-spec : {M : Type 1} → statement M
 run-passes-spec =
     tie.close
-    (tie.spec
-    Inv-loop
-    μ-loop
+    (tie.spec Inv-loop μ-loop
     (λ c. search scans) (λ c. search needs) (λ c κs. search needs) (λ c. search scans) (λ c. search needs) (λ c. search needs)
     (λ c. search scans) (λ c. search scans))

@@ -19,9 +19,7 @@ abbrev μ-loop : tie.MeasureT-loop
 pub ctb-passes-spec : {M : Type 1} → statement M
 ctb-passes-spec =
     tie.close
-    (tie.spec
-    Inv-loop
-    μ-loop
+    (tie.spec Inv-loop μ-loop
     (λ c.
     let s : tie.Start Inv-loop μ-loop = search needs in
     omega (arith, first-block (s .args .picture .width) (s .args .grid .ctb) (s .args .ctb .column) (s .pre .0 .ctb8) (s .pre .1)))

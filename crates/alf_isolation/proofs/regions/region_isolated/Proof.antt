@@ -30,9 +30,7 @@ layout s =
 pub region-isolated-spec : {M : Type 1} → statement M
 region-isolated-spec =
     tie.close
-    (tie.spec
-    Inv-loop
-    μ-loop
+    (tie.spec Inv-loop μ-loop
     (λ c κs.
     let s : tie.Start Inv-loop μ-loop = search needs in
     let ok = accepted-layout (layout s) _ (s .pre) in

@@ -8,8 +8,7 @@ use Rattle.alf_isolation.proofs.regions.row_passes.Tie as tie
 pub row-passes-spec : {M : Type 1} → statement M
 row-passes-spec =
     tie.close
-    (tie.spec
-    (λ c κs. search needs)
+    (tie.spec (λ c κs. search needs)
     (λ c.
     let s : tie.Start = search needs in
     omega (arith, row-begins (s .pre .0) (s .args .y) (s .pre .2)))

@@ -16,13 +16,9 @@ abbrev μ-loop : tie.MeasureT-loop
 pub is-listed-spec : {M : Type 1} → statement M
 is-listed-spec =
     tie.close
-    (tie.spec
-    Inv-loop
-    μ-loop
-    (λ c. unmet-none _ _)
+    (tie.spec Inv-loop μ-loop (λ c. unmet-none _ _)
     (λ c. search needs) (λ c. search needs)
     (λ c. omega (arith, c .shared-slice-known .given (c .before .before .loop .i)))
     (λ c. search unmet-found)
     (λ c. search needs) (λ c. search needs)
-    (λ c. search unmet-more)
-    (λ c. search unmet-done))
+    (λ c. search unmet-more) (λ c. search unmet-done))

@@ -83,20 +83,13 @@ returns c =
 pub plan-sides-spec : {M : Type 1} → statement M
 plan-sides-spec =
     tie.close
-    (tie.spec
-    Inv-loop
-    μ-loop
+    (tie.spec Inv-loop μ-loop
     (λ c. omega (arith, few-ctbs (start c .pre .0)))
-    (λ c. (omega arith, refl, λ columns rows. below-none _))
-    (λ c. search needs)
-    (λ c. search needs)
-    sides-of-requires
+    (λ c. (omega arith, refl, λ columns rows. below-none _)) (λ c. search needs) (λ c. search needs) sides-of-requires
     (λ c κs. search needs)
     (λ c. omega (arith, few c))
     (λ c. omega (arith, few c))
     (λ c. in-table c)
     (λ c. omega (arith, few c))
     (λ c. omega (arith, turned c))
-    loop-again
-    (λ c. search needs)
-    returns)
+    loop-again (λ c. search needs) returns)

@@ -8,5 +8,4 @@ pub coeff-valid-spec : {M : Type 1} → statement M
 unfolding coeffValid
 coeff-valid-spec =
     tie.close
-    (tie.spec
-    (λ c. search needs))
+    (tie.spec (λ c. search needs))

@@ -17,8 +17,6 @@ abbrev μ-loop : tie.MeasureT-loop
 pub samples-below-spec : {M : Type 1} → statement M
 samples-below-spec =
     tie.close
-    (tie.spec
-    Inv-loop
-    μ-loop
+    (tie.spec Inv-loop μ-loop
     (λ c. search scans) (λ c. search needs) (λ c. search needs) (λ c. search needs) (λ c. search needs) (λ c. search scans)
     (λ c. every-done 0 _ _ (c .before .loop .inv) (c .loop-test .left)))

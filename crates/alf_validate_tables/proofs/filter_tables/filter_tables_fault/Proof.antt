@@ -37,8 +37,7 @@ pub filter-tables-fault-spec : {M : Type 1} → statement M
 unfolding filterTablesFault bankValid fixedValid
 filter-tables-fault-spec =
     tie.close
-    (tie.spec
-    (λ c κs. search needs)
+    (tie.spec (λ c κs. search needs)
     (λ c. stops _ _ (parameters-of _ (c .before .parameters-valid .ensures)) (c .if1 .taken))
     (λ c κs. search needs)
     (λ c.

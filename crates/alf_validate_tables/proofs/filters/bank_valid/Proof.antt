@@ -19,9 +19,7 @@ abbrev μ-loop : tie.MeasureT-loop
 pub bank-valid-spec : {M : Type 1} → statement M
 bank-valid-spec =
     tie.close
-    (tie.spec
-    Inv-loop
-    μ-loop
+    (tie.spec Inv-loop μ-loop
     (λ c. search scans) (λ c. search needs) (λ c. search needs) (λ c κs. search needs) (λ c. search needs) (λ c. search needs)
     (λ c.
     let l = c .before .before in

@@ -19,7 +19,6 @@ pub clip-valid-spec : {M : Type 1} → statement M
 unfolding clipValid
 clip-valid-spec =
     tie.close
-    (tie.spec
-    (λ c. search needs)
+    (tie.spec (λ c. search needs)
     (λ c. record { sfits = one-shifted-small _ (c .pre) })
     (λ c. rw (toZ-ofZ (c .fits .clip), limit _ (c .pre))))

@@ -10,8 +10,7 @@ use Rattle.alf_validate_tables.proofs.operation_lengths.plane_fits.Tie 
 pub plane-fits-spec : {M : Type 1} → statement M
 plane-fits-spec =
     tie.close
-    (tie.spec
-    (λ c. search needs)
+    (tie.spec (λ c. search needs)
     (λ c. let a = c .before .args in omega (arith, div-le-self (a .picture .width) (a .columns)))
     (λ c. search needs)
     (λ c. let a = c .before .before .args in omega (arith, div-le-self (a .picture .height) (a .rows)))

@@ -18,7 +18,5 @@ abbrev μ-loop : tie.MeasureT-loop
 pub ctb-params-valid-spec : {M : Type 1} → statement M
 ctb-params-valid-spec =
     tie.close
-    (tie.spec
-    Inv-loop
-    μ-loop
+    (tie.spec Inv-loop μ-loop
     (λ c. search scans) (λ c κs. search needs) (λ c. search needs) (λ c. search needs) (λ c. search scans) (λ c. search scans))

@@ -8,6 +8,4 @@ use Rattle.alf_validate_tables.proofs.parameters.slice_params_valid.Tie
 pub slice-params-valid-spec : {M : Type 1} → statement M
 slice-params-valid-spec =
     tie.close
-    (tie.spec
-    (λ c κs. search needs)
-    (λ c. c .bytes-below .ensures ∙ every-up-to 7 _))
+    (tie.spec (λ c κs. search needs) (λ c. c .bytes-below .ensures ∙ every-up-to 7 _))

@@ -10,6 +10,4 @@ pub region-length-valid-spec : {M : Type 1} → statement M
 unfolding regionLengthValid planeOf
 region-length-valid-spec =
     tie.close
-    (tie.spec
-    (λ c κs. search needs)
-    (λ c l e. c .plane-fits .ensures ∙ rw e))
+    (tie.spec (λ c κs. search needs) (λ c l e. c .plane-fits .ensures ∙ rw e))

@@ -10,6 +10,4 @@ pub region-valid-spec : {M : Type 1} → statement M
 unfolding regionValid
 region-valid-spec =
     tie.close
-    (tie.spec
-    (λ c κs. search needs)
-    (λ c. c .bytes-below .ensures ∙ every-up-to 1 _))
+    (tie.spec (λ c κs. search needs) (λ c. c .bytes-below .ensures ∙ every-up-to 1 _))

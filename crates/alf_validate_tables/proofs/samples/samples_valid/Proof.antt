@@ -12,8 +12,7 @@ pub samples-valid-spec : {M : Type 1} → statement M
 unfolding samplesValid
 samples-valid-spec =
     tie.close
-    (tie.spec
-    (λ c. search needs)
+    (tie.spec (λ c. search needs)
     (λ c. omega (arith, depth-bounds _ (c .before .before .pre)))
     (λ c κs. search needs)
     (λ c. c .samples-below .ensures ∙ rw (one-shifted _ (depth-bounds _ (c .before .before .before .pre) .1))))

@@ -16,8 +16,6 @@ abbrev μ-loop : tie.MeasureT-loop
 pub fill-fixed-filters-spec : {M : Type 1} → statement M
 fill-fixed-filters-spec =
     tie.close
-    (tie.spec
-    Inv-loop
-    μ-loop
+    (tie.spec Inv-loop μ-loop
     (λ c. search needs) (λ c κs. search needs) (λ c. search needs) (λ c. search needs) (λ c. omega arith) (λ c. omega arith)
     (λ c. search needs) (λ c. search needs) (λ c. search needs))

@@ -14,7 +14,5 @@ abbrev μ-loop : tie.MeasureT-loop
 pub show-numbers-spec : {M : Type 1} → statement M
 show-numbers-spec =
     tie.close
-    (tie.spec
-    Inv-loop
-    μ-loop
+    (tie.spec Inv-loop μ-loop
     (λ c. omega arith) (λ c κs. search needs) (λ c. search needs) (λ c. omega arith) (λ c. omega arith) (λ c. search needs))

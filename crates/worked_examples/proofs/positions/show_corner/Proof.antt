@@ -159,8 +159,7 @@ narrow c =
 pub show-corner-spec : {M : Type 1} → statement M
 show-corner-spec =
     tie.close
-    (tie.spec
-    (λ c κs. (sizes, log2))
+    (tie.spec (λ c κs. (sizes, log2))
     (λ c. search needs) (λ c. search needs) (λ c. search needs) (λ c. search needs) (λ c. search needs)
     (λ c κs.
     let tables-lent = c .before .before .before in
