@@ -58,9 +58,11 @@ pub fn print_cause(cause: ClipCause) {
     }
 }
 
-// Whether the element at index k is the last of its row.
-fn ends_row(k: usize, columns: usize) -> bool {
-    columns > 0 && k % columns == columns - 1
+// A new line after the element at index k, where it is the last of its row.
+fn end_row(k: usize, columns: usize) {
+    if columns > 0 && k % columns == columns - 1 {
+        print(b"\n");
+    }
 }
 
 // A sample, four characters wide.
@@ -79,9 +81,7 @@ pub fn print_plane(plane: &[u16], columns: usize) {
     let mut k = 0;
     while k < plane.len() {
         print_sample(plane[k]);
-        if ends_row(k, columns) {
-            print(b"\n");
-        }
+        end_row(k, columns);
         k += 1;
     }
 }
@@ -101,9 +101,7 @@ pub fn print_map(map: &[u8], columns: usize) {
     let mut k = 0;
     while k < map.len() {
         print_class(map[k]);
-        if ends_row(k, columns) {
-            print(b"\n");
-        }
+        end_row(k, columns);
         k += 1;
     }
 }

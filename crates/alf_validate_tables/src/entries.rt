@@ -1,4 +1,4 @@
-// Tests of every sample, address or coefficient. The loops go on past one that fails, so that they can run as vector code.
+// Tests of every sample or coefficient. The loops go on past one that fails, so that they can run as vector code.
 ghost use mathlib.Core.Path.{_≡_};
 ghost use lib.Dec.{ltb};
 ghost use Rattle.alf_spec.specs.Lists.{every};
@@ -6,19 +6,6 @@ ghost use Rattle.alf_spec.specs.Faults.{coeffValid};
 
 // Whether each sample of a plane is below the limit, compared at its own width.
 pub fn samples_below(list: &[u16], limit: u16) -> bool
-    ensures { λ r. ⌜ r ≡ every (λ n. ltb n limit) (now (list .entry)) ⌝ }
-{
-    let mut good = true;
-    let mut i = 0;
-    while i < list.len() {
-        good = good & (list[i] < limit);
-        i += 1;
-    }
-    good
-}
-
-// Whether each CTB address is below the limit.
-pub fn addresses_below(list: &[u32], limit: u32) -> bool
     ensures { λ r. ⌜ r ≡ every (λ n. ltb n limit) (now (list .entry)) ⌝ }
 {
     let mut good = true;

@@ -1,11 +1,12 @@
 // Cause 10: slice parameters and CTB parameters.
 ghost use mathlib.Core.Path.{_≡_};
-ghost use mathlib.Core.List.{List};
-ghost use Prim.Native.Nat.{ℕ, _+_, _*_, _≤_, _<_};
+ghost use Prim.Native.Nat.{_+_, _*_, _≤_, _<_};
 ghost use lib.Dec.{leb};
 ghost use lib.ListN.{length, getD};
 ghost use Rattle.alf_spec.specs.Lists.{allBelow, every};
+ghost use Rattle.alf_spec.specs.Input.{Input};
 ghost use Rattle.alf_spec.specs.Geometry.{ctbTotal, ctbOf};
+ghost use Rattle.alf_spec.specs.Parameters.{sliceParam};
 ghost use Rattle.alf_spec.specs.Faults.{ctbRangesValid, ctbChromaZero, ctbParamsValidAt, parametersValid};
 ghost use Rattle.alf_validate_tables.specs.Tables.{mapLayout, parametersInput, ParametersFit};
 use alf_spec::Picture;
@@ -26,19 +27,13 @@ fn luma_aps_count(slice_map: &[u8], slice_params: &[u8], k: usize) -> u8
     slice_params[11 * (slice_map[k] as usize)]
 }
 
-// Whether the flags, luma set, alternatives and cross-component indices of the CTB at address k are in their ranges.
-fn ranges_valid(
-    picture: Picture,
-    slice_map: &[u8],
-    slice_params: &[u8],
-    ctb_params: &[u8],
-    k: usize,
-) -> bool
-    requires { ⌜ ParametersFit picture (now «slice_map») (now «slice_params») (now «ctb_params») × (k < length (now «slice_map»)) ⌝ }
-    ensures { λ r. ⌜ r ≡ ctbRangesValid (parametersInput picture (now («slice_map» .entry)) (now («slice_params» .entry))
-        (now («ctb_params» .entry))) (ctbOf (mapLayout picture (now («slice_map» .entry))) k) ⌝ }
+// Whether the flags, luma set, alternatives and cross-component indices of the CTB at address k are in their ranges, where its slice has so
+// many luma APSs.
+fn ranges_valid(count: u8, ctb_params: &[u8], k: usize) -> bool
+    requires { ⌜ 8 * k + 8 ≤ length (now «ctb_params») ⌝ }
+    ensures { λ r. ⌜ ((i : Input) → i .ctbParams ≡ now («ctb_params» .entry) → sliceParam i (ctbOf (i .layout) k) 0 ≡ count
+        → r ≡ ctbRangesValid i (ctbOf (i .layout) k)) ⌝ }
 {
-    let count = luma_aps_count(slice_map, slice_params, k);
     let at = 8 * k;
     (ctb_params[at] <= 1)
         & ((ctb_params[at + 1] <= 1)
@@ -50,11 +45,9 @@ fn ranges_valid(
 }
 
 // Whether the chroma flags, alternatives and cross-component indices of the CTB at address k are all 0.
-fn chroma_zero(picture: Picture, ctb_params: &[u8], k: usize) -> bool
+fn chroma_zero(ctb_params: &[u8], k: usize) -> bool
     requires { ⌜ 8 * k + 8 ≤ length (now «ctb_params») ⌝ }
-    ensures { λ r. ⌜ ((sliceMap sliceParams : List ℕ)
-        → r ≡ ctbChromaZero (parametersInput picture sliceMap sliceParams (now («ctb_params» .entry)))
-        (ctbOf (mapLayout picture sliceMap) k)) ⌝ }
+    ensures { λ r. ⌜ ((i : Input) → i .ctbParams ≡ now («ctb_params» .entry) → r ≡ ctbChromaZero i (ctbOf (i .layout) k)) ⌝ }
 {
     let at = 8 * k;
     (ctb_params[at + 1] == 0)
@@ -76,9 +69,10 @@ fn ctb_params_valid_at(
     ensures { λ r. ⌜ r ≡ ctbParamsValidAt (parametersInput picture (now («slice_map» .entry)) (now («slice_params» .entry))
         (now («ctb_params» .entry))) k ⌝ }
 {
-    let ranges = ranges_valid(picture, slice_map, slice_params, ctb_params, k);
+    let count = luma_aps_count(slice_map, slice_params, k);
+    let ranges = ranges_valid(count, ctb_params, k);
     if picture.chroma_format == 0 {
-        return ranges & chroma_zero(picture, ctb_params, k);
+        return ranges & chroma_zero(ctb_params, k);
     }
     ranges
 }

@@ -2,11 +2,9 @@
 ghost use mathlib.Core.Path.{_≡_};
 ghost use mathlib.Core.Bool.{true, _&&_};
 ghost use mathlib.Core.List.{[]};
-ghost use Prim.Native.Nat.{_≤_};
 ghost use Rattle.alf_spec.specs.Input.{Layout, inputOf};
 ghost use Rattle.alf_spec.specs.Geometry.{ctbTotal};
 ghost use Rattle.alf_spec.specs.Faults.{bitDepthValid, samplesValid, addressesValid};
-use crate::entries::addresses_below;
 use crate::entries::samples_below;
 use alf_spec::Picture;
 
@@ -26,11 +24,16 @@ pub fn planes_valid(picture: Picture, luma: &[u16], chroma: &[u16]) -> bool
     samples_valid(picture, luma) & samples_valid(picture, chroma)
 }
 
-// Whether each address of the list is below the number of CTBs.
+// Whether each address of the list is below the number of CTBs. The loop goes on past one that fails, so that it can run as vector code.
 pub fn addresses_valid(ctb_total: usize, ctb_list: &[u32]) -> bool
-    requires { ⌜ «ctb_total» ≤ 16384 ⌝ }
     ensures { λ r. ⌜ ((l : Layout) → ctbTotal l ≡ «ctb_total»
         → r ≡ addressesValid (inputOf l [] [] [] [] [] (now («ctb_list» .entry)) [] [] 0)) ⌝ }
 {
-    addresses_below(ctb_list, ctb_total as u32)
+    let mut good = true;
+    let mut i = 0;
+    while i < ctb_list.len() {
+        good = good & ((ctb_list[i] as usize) < ctb_total);
+        i += 1;
+    }
+    good
 }

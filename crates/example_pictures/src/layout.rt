@@ -2,16 +2,26 @@
 // counts there.
 use alf_spec::Picture;
 
+// A picture of luma alone at 8 bits, of one slice, all switches on.
+pub fn plain(width: u32, height: u32, ctb_log2: u8) -> Picture {
+    Picture {
+        width: width,
+        height: height,
+        ctb_log2: ctb_log2,
+        bit_depth: 8,
+        chroma_format: 0,
+        slice_count: 1,
+        across_tiles: true,
+        across_slices: true,
+    }
+}
+
 pub fn picture() -> Picture {
     Picture {
-        width: 40,
-        height: 40,
-        ctb_log2: 5,
-        bit_depth: 8,
         chroma_format: 1,
         slice_count: 2,
-        across_tiles: true,
         across_slices: false,
+        ..plain(40, 40, 5)
     }
 }
 

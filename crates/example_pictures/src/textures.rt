@@ -1,18 +1,10 @@
 // A picture with four kinds of texture side by side.
+use crate::layout::plain;
 use alf_spec::Picture;
 
 // 64 by 48 at 8 bits, with CTBs of 32: the CTBs of the second row are not whole.
 pub fn textured_picture() -> Picture {
-    Picture {
-        width: 64,
-        height: 48,
-        ctb_log2: 5,
-        bit_depth: 8,
-        chroma_format: 0,
-        slice_count: 1,
-        across_tiles: true,
-        across_slices: true,
-    }
+    plain(64, 48, 5)
 }
 
 // Bars that are four samples wide.

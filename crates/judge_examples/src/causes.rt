@@ -8,6 +8,7 @@ use alf_print::print_number;
 use alf_spec::ClipCauses;
 use alf_spec::Picture;
 use alf_spec::SideCauses;
+use example_pictures::layout::plain;
 
 // Top, bottom, left, right.
 fn show_sides(causes: SideCauses) {
@@ -26,13 +27,6 @@ fn show_sides(causes: SideCauses) {
 }
 
 fn show_at(x: u32, y: u32) {
-    let virtual_columns = [16u16];
-    let virtual_rows: [u16; 0] = [];
-    let tile_columns = [0u8; 2];
-    let tile_rows = [0u8; 1];
-    let slice_map = [0u8, 1];
-    let subpic_map = [0u8; 2];
-    let subpic_across = [1u8; 64];
     print(b"  (");
     print_number(x);
     print(b",");
@@ -40,22 +34,17 @@ fn show_at(x: u32, y: u32) {
     print(b") -> ");
     let answer = clip_causes(
         Picture {
-            width: 64,
-            height: 32,
-            ctb_log2: 5,
-            bit_depth: 8,
-            chroma_format: 0,
             slice_count: 2,
-            across_tiles: true,
             across_slices: false,
+            ..plain(64, 32, 5)
         },
-        &virtual_columns,
-        &virtual_rows,
-        &tile_columns,
-        &tile_rows,
-        &slice_map,
-        &subpic_map,
-        &subpic_across,
+        &[16],
+        &[],
+        &[0; 2],
+        &[0; 1],
+        &[0, 1],
+        &[0; 2],
+        &[1; 64],
         x,
         y,
     );

@@ -6,6 +6,7 @@ use alf_spec::Answer;
 use alf_spec::Picture;
 use alf_validate::judge_isolation;
 use alf_validate::judge_luma;
+use example_pictures::layout::plain;
 
 // Whether cause n is one of those to break.
 fn breaks(n: u32, first: u32, last: u32) -> bool {
@@ -14,36 +15,23 @@ fn breaks(n: u32, first: u32, last: u32) -> bool {
 
 // 1 to 5. Sound, it has two by two CTBs of 32.
 fn picture(first: u32, last: u32) -> Picture {
-    let mut width = 40;
-    let mut ctb_log2 = 5;
-    let mut bit_depth = 8;
-    let mut chroma_format = 0;
-    let mut slice_count = 1;
+    let mut picture = plain(40, 40, 5);
     if breaks(1, first, last) {
-        width = 44;
+        picture.width = 44;
     }
     if breaks(2, first, last) {
-        ctb_log2 = 8;
+        picture.ctb_log2 = 8;
     }
     if breaks(3, first, last) {
-        bit_depth = 13;
+        picture.bit_depth = 13;
     }
     if breaks(4, first, last) {
-        chroma_format = 4;
+        picture.chroma_format = 4;
     }
     if breaks(5, first, last) {
-        slice_count = 257;
+        picture.slice_count = 257;
     }
-    Picture {
-        width: width,
-        height: 40,
-        ctb_log2: ctb_log2,
-        bit_depth: bit_depth,
-        chroma_format: chroma_format,
-        slice_count: slice_count,
-        across_tiles: true,
-        across_slices: true,
-    }
+    picture
 }
 
 // What stands in a table: this where cause n is one of those to break, else the other.

@@ -12,7 +12,7 @@ use alf_print::print;
 use alf_print::print_number;
 use alf_spec::Fault;
 use alf_spec::Isolation;
-use alf_spec::Picture;
+use example_pictures::layout::plain;
 
 // What the isolation test answers.
 fn show(answer: Isolation) {
@@ -29,38 +29,20 @@ fn show_fault(fault: Fault) {
     print(b"\n");
 }
 
-// One slice, all switches on.
-fn plain(width: u32, height: u32, ctb_log2: u8) -> Picture {
-    Picture {
-        width: width,
-        height: height,
-        ctb_log2: ctb_log2,
-        bit_depth: 8,
-        chroma_format: 0,
-        slice_count: 1,
-        across_tiles: true,
-        across_slices: true,
-    }
-}
-
 // A picture so wide, with one row of CTBs of 128 that have these tile columns, slices and subpictures, and a region of it.
 fn show_width(width: u32, numbers: &[u8], region: &[u8]) {
-    let virtual_columns: [u16; 0] = [];
-    let virtual_rows: [u16; 0] = [];
-    let tile_rows = [0u8; 1];
-    let subpic_across = [1u8; 64];
     print(b"  ");
     print_number(width);
     print(b" -> ");
     let answer = isolated(
         plain(width, 8, 7),
-        &virtual_columns,
-        &virtual_rows,
+        &[],
+        &[],
         numbers,
-        &tile_rows,
+        &[0; 1],
         numbers,
         numbers,
-        &subpic_across,
+        &[1; 64],
         region,
     );
     print_number(isolation_number(answer) as u32);
@@ -70,22 +52,16 @@ fn show_width(width: u32, numbers: &[u8], region: &[u8]) {
 // Two subpictures side by side in one tile and slice, no virtual boundary, left switch off, right on. A region is four rows of eight
 // blocks.
 fn show_half(region: &[u8]) {
-    let virtual_columns: [u16; 0] = [];
-    let virtual_rows: [u16; 0] = [];
-    let tile_columns = [0u8; 2];
-    let tile_rows = [0u8; 1];
-    let slice_map = [0u8; 2];
-    let subpic_map = [0u8, 1];
     let mut subpic_across = [1u8; 64];
     subpic_across[0] = 0;
     show(isolated(
         plain(64, 32, 5),
-        &virtual_columns,
-        &virtual_rows,
-        &tile_columns,
-        &tile_rows,
-        &slice_map,
-        &subpic_map,
+        &[],
+        &[],
+        &[0; 2],
+        &[0; 1],
+        &[0; 2],
+        &[0, 1],
         &subpic_across,
         region,
     ));

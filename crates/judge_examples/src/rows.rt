@@ -1,6 +1,5 @@
 // A row for each thing that shares its number with others: the number answered where it alone is broken, beside a sound neighbour.
 ghost use Prim.Native.Nat.{_<_};
-use crate::plain;
 use alf::number;
 use alf_print::print;
 use alf_print::print_number;
@@ -9,6 +8,7 @@ use alf_spec::Picture;
 use alf_validate::judge_chroma;
 use alf_validate::judge_isolation;
 use alf_validate::judge_luma;
+use example_pictures::layout::plain;
 
 fn show_answer(text: &[u8], answer: Answer) {
     print(b"  ");
@@ -116,14 +116,8 @@ fn show_chroma(text: &[u8], sample: u16) {
         text,
         judge_chroma(
             Picture {
-                width: 8,
-                height: 8,
-                ctb_log2: 5,
-                bit_depth: 8,
                 chroma_format: 1,
-                slice_count: 1,
-                across_tiles: true,
-                across_slices: true,
+                ..plain(8, 8, 5)
             },
             &[],
             &[],

@@ -47,24 +47,28 @@ fn show_large(v: u32, h: u32, d0: u32, d1: u32)
     }
 }
 
+// Sums that are less by one, each in turn.
+fn show_one_less(v: u32, h: u32, d0: u32, d1: u32)
+    requires { ⌜ (0 < v) × (v < 2 ^ 18) × (0 < h) × (h < 2 ^ 18) × (0 < d0) × (d0 < 2 ^ 18) × (0 < d1) × (d1 < 2 ^ 18) ⌝ }
+{
+    show_large(v - 1, h, d0, d1);
+    show_large(v, h - 1, d0, d1);
+    show_large(v, h, d0 - 1, d1);
+    show_large(v, h, d0, d1 - 1);
+}
+
 // At 12 bits 32 second differences of up to 8,190 make a sum of up to 262,080: four times that, and one off in each.
 pub fn show_largest() {
     show_large(262080, 262080, 262080, 262080);
-    show_large(262079, 262080, 262080, 262080);
-    show_large(262080, 262079, 262080, 262080);
-    show_large(262080, 262080, 262079, 262080);
-    show_large(262080, 262080, 262080, 262079);
+    show_one_less(262080, 262080, 262080, 262080);
     show_large(262081, 262080, 262080, 262080);
     show_large(262080, 262081, 262080, 262080);
     show_large(262080, 262080, 262081, 262080);
     show_large(262080, 262080, 262080, 262081);
 }
 
-// Both gradients of one strength, 3 to 1, and one off in each sum: which is the main one shows in the class.
+// Both gradients of one strength, 3 to 1, and one less in each sum: which is the main one shows in the class.
 pub fn show_ties() {
     show_large(262080, 87360, 262080, 87360);
-    show_large(262079, 87360, 262080, 87360);
-    show_large(262080, 87359, 262080, 87360);
-    show_large(262080, 87360, 262079, 87360);
-    show_large(262080, 87360, 262080, 87359);
+    show_one_less(262080, 87360, 262080, 87360);
 }

@@ -1,7 +1,6 @@
 -- `alf_validate_tables::parameters::chroma_zero` meets its contract: a CTB's numbers stand at its address. Assumes nothing.
 use borrow.Author.Needs.{needs}
 use Rattle.alf_spec.specs.Faults.{ctbChromaZero}
-use Rattle.alf_validate_tables.specs.Tables.{parametersInput}
 use Rattle.alf_validate_tables.proofs.CtbParameters.{at-address}
 use Rattle.alf_validate_tables.proofs.parameters.chroma_zero.Statement.{statement}
 use Rattle.alf_validate_tables.proofs.parameters.chroma_zero.Tie as tie
@@ -14,7 +13,4 @@ chroma-zero-spec =
     (λ c. search needs) (λ c. search needs) (λ c. search needs) (λ c. search needs) (λ c. search needs) (λ c. search needs)
     (λ c. search needs) (λ c. search needs) (λ c. search needs) (λ c. search needs) (λ c. search needs) (λ c. search needs)
     (λ c. search needs)
-    (λ c sliceMap sliceParams.
-    let start : tie.Start = search needs in
-    let a = start .args in
-    simp (at-address (parametersInput (a .picture) sliceMap sliceParams (a .ctb-params .now)) (a .k))))
+    (λ c i same. let start : tie.Start = search needs in simp (at-address i (start .args .k), same)))

@@ -4,8 +4,7 @@ use native.Mathlib.Nat.{add-zero}
 use native.Mathlib.Omega.{arith}
 use borrow.Author.Needs.{needs}
 use Rattle.alf_spec.specs.Faults.{ctbRangesValid}
-use Rattle.alf_validate_tables.specs.Tables.{parametersInput}
-use Rattle.alf_validate_tables.proofs.CtbParameters.{slice-params, at-address, of-slice}
+use Rattle.alf_validate_tables.proofs.CtbParameters.{at-address}
 use Rattle.alf_validate_tables.proofs.parameters.ranges_valid.Statement.{statement}
 use Rattle.alf_validate_tables.proofs.parameters.ranges_valid.Tie as tie
 
@@ -14,15 +13,9 @@ unfolding ctbRangesValid
 ranges-valid-spec =
     tie.close
     (tie.spec
-    (λ c κs. let s = c .before .before .before in (s .pre .1, slice-params _ _ _ _ (s .pre .0) _ (s .pre .1)))
     (λ c. search needs) (λ c. search needs) (λ c. search needs) (λ c. search needs) (λ c. search needs) (λ c. search needs)
     (λ c. search needs) (λ c. search needs)
-    (λ c. let start : tie.Start = search needs in omega (arith, c .shared-slice-known7 .given (8 * start .args .k + 3)))
+    (λ c. let start : tie.Start = search needs in omega (arith, c .shared-slice-known4 .given (8 * start .args .k + 3)))
     (λ c. search needs) (λ c. search needs) (λ c. search needs) (λ c. search needs) (λ c. search needs) (λ c. search needs)
-    (λ c. search needs) (λ c. search needs) (λ c. search needs) (λ c. search needs)
-    (λ c.
-    let start : tie.Start = search needs in
-    let count : tie.After-luma-aps-count = search needs in
-    let a = start .args in
-    let i = parametersInput (a .picture) (a .slice-map .now) (a .slice-params .now) (a .ctb-params .now) in
-    simp (count .luma-aps-count .ensures, at-address i (a .k), of-slice i (a .k), add-zero)))
+    (λ c. search needs) (λ c. search needs) (λ c. search needs)
+    (λ c i same counted. let start : tie.Start = search needs in simp (counted, at-address i (start .args .k), same, add-zero)))
