@@ -8,7 +8,5 @@ use Rattle.alf_op_causes.proofs.causes.cause_at.Tie as tie
 pub cause-at-spec : {M : Type 1} → statement M
 cause-at-spec =
     tie.close
-    (tie.spec
-    (λ c κs. search needs)
-    (λ c κs. search needs)
+    (tie.spec (λ c κs. search needs) (λ c κs. search needs)
     (λ c. c .cause-of .ensures ∙ ap causeOf (c .before .find-clip .ensures 1)))

@@ -63,16 +63,13 @@ causes-at-spec =
     tie.close
     (tie.spec
     (λ c κs. let s : tie.Start = search needs in let ok = accepted s .0 in (ok .sizes, ok .ctbSize))
-    (λ c. search needs)
-    (λ c. search needs)
+    (λ c. search needs) (λ c. search needs)
     (λ c κs.
     let g : tie.After-grid = search needs in
     let s = start g in
     let ok = accepted s in
     in-grid (layout s) (ok .0) (g .grid .ensures) (s .args .x) (s .args .y) (ok .1) (ok .2))
-    (λ c κs. search needs)
-    (λ c κs. search needs)
-    (λ c κs. small c .1)
+    (λ c κs. search needs) (λ c κs. search needs) (λ c κs. small c .1)
     (λ c κs. small (c .before) .1)
     (λ c κs. small (c .before .before) .0)
     (λ c κs. small (c .before .before .before) .0)
