@@ -111,12 +111,10 @@ fn address_passes(
 ) -> bool
     requires { ⌜ (GridOf picture grid) × (k < grid .columns * grid .rows)
         × (isolationFault (layoutOf picture (now «virtual_columns») (now «virtual_rows») (now «tile_columns») (now «tile_rows»)
-        (now «slice_map»)
-        (now «subpic_map») (now «subpic_across»)) (now region) ≡ 0) ⌝ }
+        (now «slice_map») (now «subpic_map») (now «subpic_across»)) (now region) ≡ 0) ⌝ }
     ensures { λ r. ⌜ r ≡ addressPasses (layoutOf picture (now («virtual_columns» .entry)) (now («virtual_rows» .entry))
-        (now («tile_columns» .entry))
-        (now («tile_rows» .entry)) (now («slice_map» .entry)) (now («subpic_map» .entry)) (now («subpic_across» .entry)))
-        (now (region .entry)) k ⌝ }
+        (now («tile_columns» .entry)) (now («tile_rows» .entry)) (now («slice_map» .entry)) (now («subpic_map» .entry))
+        (now («subpic_across» .entry))) (now (region .entry)) k ⌝ }
 {
     let ctb = Ctb {
         column: k % grid.columns,
@@ -158,9 +156,8 @@ pub fn region_isolated(
     requires { ⌜ isolationFault (layoutOf picture (now «virtual_columns») (now «virtual_rows») (now «tile_columns») (now «tile_rows»)
         (now «slice_map») (now «subpic_map») (now «subpic_across»)) (now region) ≡ 0 ⌝ }
     ensures { λ r. ⌜ r ≡ isolated (layoutOf picture (now («virtual_columns» .entry)) (now («virtual_rows» .entry))
-        (now («tile_columns» .entry))
-        (now («tile_rows» .entry)) (now («slice_map» .entry)) (now («subpic_map» .entry)) (now («subpic_across» .entry)))
-        (now (region .entry)) ⌝ }
+        (now («tile_columns» .entry)) (now («tile_rows» .entry)) (now («slice_map» .entry)) (now («subpic_map» .entry))
+        (now («subpic_across» .entry))) (now (region .entry)) ⌝ }
 {
     let grid = grid(picture);
     let total = grid.columns * grid.rows;

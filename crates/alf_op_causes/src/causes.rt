@@ -42,8 +42,8 @@ pub fn causes_at(
     requires { ⌜ causesFault (layoutOf picture (now «virtual_columns») (now «virtual_rows») (now «tile_columns») (now «tile_rows»)
         (now «slice_map») (now «subpic_map») (now «subpic_across»)) true x y ≡ 0 ⌝ }
     ensures { λ r. ⌜ r ≡ causesAt (layoutOf picture (now («virtual_columns» .entry)) (now («virtual_rows» .entry))
-        (now («tile_columns» .entry))
-        (now («tile_rows» .entry)) (now («slice_map» .entry)) (now («subpic_map» .entry)) (now («subpic_across» .entry))) x y ⌝ }
+        (now («tile_columns» .entry)) (now («tile_rows» .entry)) (now («slice_map» .entry)) (now («subpic_map» .entry))
+        (now («subpic_across» .entry))) x y ⌝ }
 {
     let grid = grid(picture);
     let ctb = Ctb {

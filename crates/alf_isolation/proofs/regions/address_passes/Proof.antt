@@ -9,8 +9,7 @@ use Rattle.alf_isolation.proofs.regions.address_passes.Tie as tie
 abbrev layout : tie.Start → Layout
 layout s =
     layoutOf (s .args .picture) (s .args .virtual-columns .now) (s .args .virtual-rows .now) (s .args .tile-columns .now)
-    (s .args .tile-rows .now)
-    (s .args .slice-map .now) (s .args .subpic-map .now) (s .args .subpic-across .now)
+    (s .args .tile-rows .now) (s .args .slice-map .now) (s .args .subpic-map .now) (s .args .subpic-across .now)
 
 pub address-passes-spec : {M : Type 1} → statement M
 address-passes-spec =

@@ -24,8 +24,7 @@ abbrev μ-loop : tie.MeasureT-loop
 abbrev layout : tie.Start Inv-loop μ-loop → Layout
 layout s =
     layoutOf (s .args .picture) (s .args .virtual-columns .now) (s .args .virtual-rows .now) (s .args .tile-columns .now)
-    (s .args .tile-rows .now)
-    (s .args .slice-map .now) (s .args .subpic-map .now) (s .args .subpic-across .now)
+    (s .args .tile-rows .now) (s .args .slice-map .now) (s .args .subpic-map .now) (s .args .subpic-across .now)
 
 pub region-isolated-spec : {M : Type 1} → statement M
 region-isolated-spec =
