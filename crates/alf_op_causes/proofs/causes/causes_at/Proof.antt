@@ -14,8 +14,7 @@ use Rattle.alf_op_causes.proofs.causes.causes_at.Tie as tie
 abbrev layout : tie.Start → Layout
 layout s =
     layoutOf (s .args .picture) (s .args .virtual-columns .now) (s .args .virtual-rows .now) (s .args .tile-columns .now)
-    (s .args .tile-rows .now)
-    (s .args .slice-map .now) (s .args .subpic-map .now) (s .args .subpic-across .now)
+    (s .args .tile-rows .now) (s .args .slice-map .now) (s .args .subpic-map .now) (s .args .subpic-across .now)
 
 -- it is accepted, and the position lies in the picture
 accepted : (s : tie.Start) → AcceptedLayout (layout s) × (s .args .x < s .args .picture .width) × (s .args .y < s .args .picture .height)
@@ -23,7 +22,7 @@ accepted s = accepted-position (layout s) (s .args .x) (s .args .y) (s .pre)
 
 -- what the function is given, seen from where the grid is known
 abbrev start : tie.After-grid → tie.Start
-start c = let tables = c .before .before .before .before in tables .before .before .before .before
+start c = search needs
 
 -- where the grid is known, seen from where the two axes are
 abbrev known : tie.After-row-axis → tie.After-grid
