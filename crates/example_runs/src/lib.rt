@@ -1,5 +1,4 @@
-// Every operation on the example picture, and what it leaves, for the example programs. The layout's tables and the filters' are handed on
-// as slices: an array that is lent anew to each call costs the check more.
+// Every operation on the example picture, and what it leaves, for the example programs.
 use alf::isolation_number;
 use alf::number;
 use alf_print::print;
@@ -7,7 +6,6 @@ use alf_print::print_answer;
 use alf_print::print_isolation;
 use alf_print::print_map;
 use alf_print::print_plane;
-use alf_spec::Answer;
 use alf_spec::Picture;
 use example_pictures::drawing::draw_chroma;
 use example_pictures::layout::SLICE_MAP;
@@ -22,13 +20,6 @@ use example_pictures::tables::CTB_PARAMS;
 use example_pictures::tables::SLICE_PARAMS;
 use example_pictures::tables::fill_fixed_filters;
 use example_pictures::tables::fill_fixed_map;
-
-// A filter, and where it has one its component.
-enum Filter {
-    Luma,
-    Chroma(u8),
-    CrossComponent(u8),
-}
 
 // The class map of a picture, so many blocks a row.
 pub fn show_classes(
@@ -60,100 +51,17 @@ pub fn show_classes(
     print_map(map, columns);
 }
 
-// What a filter answers, whose output is written.
-fn run(
-    filter: Filter,
-    virtual_columns: &[u16],
-    virtual_rows: &[u16],
-    tiles: &[u8],
-    slice_map: &[u8],
-    subpic_map: &[u8],
-    subpic_across: &[u8],
-    slice_params: &[u8],
-    bank: &[i16],
-    ctb_params: &[u8],
-    ctb_list: &[u32],
-    fixed_filters: &[i16],
-    fixed_map: &[u8],
-    luma: &[u16],
-    chroma: &[u16],
-    output: &mut [u16],
-) -> Answer {
-    match filter {
-        Filter::Luma => alf::luma(
-            picture(),
-            virtual_columns,
-            virtual_rows,
-            tiles,
-            tiles,
-            slice_map,
-            subpic_map,
-            subpic_across,
-            slice_params,
-            bank,
-            ctb_params,
-            ctb_list,
-            fixed_filters,
-            fixed_map,
-            luma,
-            output,
-        ),
-        Filter::Chroma(component) => alf::chroma(
-            picture(),
-            virtual_columns,
-            virtual_rows,
-            tiles,
-            tiles,
-            slice_map,
-            subpic_map,
-            subpic_across,
-            component,
-            slice_params,
-            bank,
-            ctb_params,
-            ctb_list,
-            chroma,
-            output,
-        ),
-        Filter::CrossComponent(component) => alf::cross_component(
-            picture(),
-            virtual_columns,
-            virtual_rows,
-            tiles,
-            tiles,
-            slice_map,
-            subpic_map,
-            subpic_across,
-            component,
-            slice_params,
-            bank,
-            ctb_params,
-            ctb_list,
-            luma,
-            chroma,
-            output,
-        ),
-    }
-}
-
-// A filter of the picture, with these parameters of the CTBs.
-fn show_filter(
-    text: &[u8],
-    filter: Filter,
-    bank: &[i16],
-    ctb_params: &[u8],
-    luma: &[u16],
-    chroma: &[u16],
-    output: &mut [u16],
-) {
+// The luma filter of the picture, with these parameters of the CTBs.
+fn show_luma(text: &[u8], bank: &[i16], ctb_params: &[u8], luma: &[u16], output: &mut [u16]) {
     let mut fixed_filters = [0i16; 768];
     let mut fixed_map = [0u8; 400];
     fill_fixed_filters(&mut fixed_filters);
     fill_fixed_map(&mut fixed_map);
-    let answer = run(
-        filter,
+    let answer = alf::luma(
+        picture(),
         &VIRTUAL_COLUMNS,
         &VIRTUAL_ROWS,
+        &TILES,
         &TILES,
         &SLICE_MAP,
         &SUBPIC_MAP,
@@ -165,21 +73,58 @@ fn show_filter(
         &fixed_filters,
         &fixed_map,
         luma,
-        chroma,
         output,
     );
     print_answer(text, number(answer));
 }
 
+// The chroma filter of a component.
+fn show_chroma(component: u8, bank: &[i16], chroma: &[u16], output: &mut [u16]) {
+    let answer = alf::chroma(
+        picture(),
+        &VIRTUAL_COLUMNS,
+        &VIRTUAL_ROWS,
+        &TILES,
+        &TILES,
+        &SLICE_MAP,
+        &SUBPIC_MAP,
+        &SUBPIC_ACROSS,
+        component,
+        &SLICE_PARAMS,
+        bank,
+        &CTB_PARAMS,
+        &CTB_LIST,
+        chroma,
+        output,
+    );
+    print_answer(b" filtered", number(answer));
+}
+
+// The cross-component filter of a component.
+fn show_corrected(component: u8, bank: &[i16], luma: &[u16], chroma: &[u16], output: &mut [u16]) {
+    let answer = alf::cross_component(
+        picture(),
+        &VIRTUAL_COLUMNS,
+        &VIRTUAL_ROWS,
+        &TILES,
+        &TILES,
+        &SLICE_MAP,
+        &SUBPIC_MAP,
+        &SUBPIC_ACROSS,
+        component,
+        &SLICE_PARAMS,
+        bank,
+        &CTB_PARAMS,
+        &CTB_LIST,
+        luma,
+        chroma,
+        output,
+    );
+    print_answer(b" corrected from luma", number(answer));
+}
+
 // Both filters of a component that is drawn with bars in so many columns.
-fn show_component(
-    component: u8,
-    name: &[u8],
-    columns: usize,
-    bank: &[i16],
-    ctb_params: &[u8],
-    luma: &[u16],
-) {
+fn show_component(component: u8, name: &[u8], columns: usize, bank: &[i16], luma: &[u16]) {
     let mut chroma = [0u16; 400];
     let mut filtered = [0u16; 400];
     draw_chroma(columns, &mut chroma);
@@ -187,26 +132,10 @@ fn show_component(
     print(b" before\n");
     print_plane(&chroma, 20);
     print(name);
-    show_filter(
-        b" filtered",
-        Filter::Chroma(component),
-        bank,
-        ctb_params,
-        luma,
-        &chroma,
-        &mut filtered,
-    );
+    show_chroma(component, bank, &chroma, &mut filtered);
     print_plane(&filtered, 20);
     print(name);
-    show_filter(
-        b" corrected from luma",
-        Filter::CrossComponent(component),
-        bank,
-        ctb_params,
-        luma,
-        &filtered,
-        &mut chroma,
-    );
+    show_corrected(component, bank, luma, &filtered, &mut chroma);
     print_plane(&chroma, 20);
 }
 
@@ -243,13 +172,11 @@ fn show_rejected(bank: &[i16], luma: &[u16]) {
     let mut output = [7u16; 1600];
     let mut params = CTB_PARAMS;
     params[3] = 17;
-    show_filter(
+    show_luma(
         b"luma with a set that the slice does not have",
-        Filter::Luma,
         bank,
         &params,
         luma,
-        &[],
         &mut output,
     );
     print(b"the first row of its output, as it was\n");
@@ -257,20 +184,12 @@ fn show_rejected(bank: &[i16], luma: &[u16]) {
 }
 
 // The filters of luma, of Cb and of Cr.
-fn show_filters(bank: &[i16], ctb_params: &[u8], luma: &[u16]) {
+fn show_filters(bank: &[i16], luma: &[u16]) {
     let mut output = [0u16; 1600];
-    show_filter(
-        b"luma filtered",
-        Filter::Luma,
-        bank,
-        ctb_params,
-        luma,
-        &[],
-        &mut output,
-    );
+    show_luma(b"luma filtered", bank, &CTB_PARAMS, luma, &mut output);
     print_plane(&output, 40);
-    show_component(0, b"Cb", 18, bank, ctb_params, luma);
-    show_component(1, b"Cr", 11, bank, ctb_params, luma);
+    show_component(0, b"Cb", 18, bank, luma);
+    show_component(1, b"Cr", 11, bank, luma);
 }
 
 // All operations, in turn, and last an input that is rejected.
@@ -290,7 +209,7 @@ pub fn show_picture(bank: &[i16], luma: &[u16], map: &mut [u8]) {
         map,
         10,
     );
-    show_filters(bank, &CTB_PARAMS, luma);
+    show_filters(bank, luma);
     show_regions();
     show_rejected(bank, luma);
 }
