@@ -32,13 +32,13 @@ use Rattle.alf_ctb.specs.FilterWork.{FilterInput, FilterRooms, Numbers, 
 
 -- ---- what they are given
 
-module _ {f : Filter} {p : Picture} {g : Grid} {luma chroma places : List ℕ} (filters : List ℤ) {taps : List ℤ}
+module _ {f : Filter} {p : Picture} {g : Grid} {luma chroma orders : List ℕ} (filters : List ℤ) {taps : List ℤ}
     {copy differences output : ℕ}
-    (isInput : FilterInput f p g luma chroma places) (isNumbers : Numbers f filters)
+    (isInput : FilterInput f p g luma chroma orders) (isNumbers : Numbers f filters)
     (isRooms : FilterRooms f p copy differences taps output) where
-  pub luma-work : f ≡ Luma → LumaPieceInput p g luma filters places copy differences taps output
+  pub luma-work : f ≡ Luma → LumaPieceInput p g luma filters orders copy differences taps output
   luma-work e =
-      let given = subst (λ f. FilterInput f p g luma chroma places) e isInput in
+      let given = subst (λ f. FilterInput f p g luma chroma orders) e isInput in
       let rooms = subst (λ f. FilterRooms f p copy differences taps output) e isRooms in
       record {
         blocks = record {
@@ -56,7 +56,7 @@ module _ {f : Filter} {p : Picture} {g : Grid} {luma chroma places : List ℕ} (
 
   pub chroma-work : {component : ℕ} → f ≡ Chroma component → ChromaWork p g chroma filters copy taps output
   chroma-work e =
-      let given = subst (λ f. FilterInput f p g luma chroma places) e isInput in
+      let given = subst (λ f. FilterInput f p g luma chroma orders) e isInput in
       let rooms = subst (λ f. FilterRooms f p copy differences taps output) e isRooms in
       let numbers = subst (λ f. Numbers f filters) e isNumbers in
       record {
@@ -73,7 +73,7 @@ module _ {f : Filter} {p : Picture} {g : Grid} {luma chroma places : List ℕ} (
 
   pub cross-work : {component : ℕ} → f ≡ CrossComponent component → CrossWork p g luma chroma filters copy differences output
   cross-work e =
-      let given = subst (λ f. FilterInput f p g luma chroma places) e isInput in
+      let given = subst (λ f. FilterInput f p g luma chroma orders) e isInput in
       let rooms = subst (λ f. FilterRooms f p copy differences taps output) e isRooms in
       let numbers = subst (λ f. Numbers f filters) e isNumbers in
       record {

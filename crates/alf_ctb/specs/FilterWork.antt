@@ -28,13 +28,13 @@ use Rattle.alf_ctb.specs.declared.Filter.the-variants.{Luma, Chroma, Cro
 use Rattle.alf_ctb.specs.Filters.{operationOf, columnRatio, rowRatio, walkPlane, sampleOf, OwnFilter}
 
 -- an accepted picture, its planes as far as the filter is given them, and the tap order
-pub record FilterInput (f : Filter) (p : Picture) (g : Grid) (lumaSamples chromaSamples places : List ℕ) : Type 0 where
+pub record FilterInput (f : Filter) (p : Picture) (g : Grid) (lumaSamples chromaSamples orders : List ℕ) : Type 0 where
   pub picture : AcceptedPicture p g
   pub lumaLength : given (operationOf f) .luma ≡ true → length lumaSamples ≡ p .width * p .height
   pub chromaLength : given (operationOf f) .chroma ≡ true → length chromaSamples ≡ (p .width / subWidth p) * (p .height / subHeight p)
   pub luma : given (operationOf f) .luma ≡ true → (k : ℕ) → getD lumaSamples k 0 < 4096
   pub chroma : given (operationOf f) .chroma ≡ true → (k : ℕ) → getD chromaSamples k 0 < 4096
-  pub order : TapOrders places
+  pub order : TapOrders orders
 
 -- what it works in: room for the copy of a piece and for its differences, the spread numbers of a filter, and an output of the plane's size
 pub record FilterRooms (f : Filter) (p : Picture) (copy differences : ℕ) (taps : List ℤ) (output : ℕ) : Type 0 where

@@ -34,13 +34,13 @@ fn filter_strip(
     luma: &[u16],
     chroma: &[u16],
     filters: &[i16],
-    places: &[u8],
+    orders: &[u8],
     copy: &mut [u16],
     differences: &mut [u16],
     taps: &mut [i16],
     output: &mut [u16],
 )
-    requires { ⌜ (FilterInput filter picture grid (now luma) (now chroma) (now places)) × (Numbers filter (now filters))
+    requires { ⌜ (FilterInput filter picture grid (now luma) (now chroma) (now orders)) × (Numbers filter (now filters))
         × (FilterRooms filter picture (length (now copy)) (length (now differences)) (now taps) (length (now output)))
         × (virtualListValid (picture .width) (ctbSize picture) (now «virtual_columns») ≡ true)
         × (BlockPiece (picture .height) rows) × (ctb .column * grid .ctb < picture .width) ⌝ }
@@ -64,7 +64,7 @@ fn filter_strip(
             luma,
             chroma,
             filters,
-            places,
+            orders,
             copy,
             differences,
             taps,
@@ -98,13 +98,13 @@ pub fn filter_ctb(
     luma: &[u16],
     chroma: &[u16],
     filters: &[i16],
-    places: &[u8],
+    orders: &[u8],
     copy: &mut [u16],
     differences: &mut [u16],
     taps: &mut [i16],
     output: &mut [u16],
 )
-    requires { ⌜ (FilterInput filter picture grid (now luma) (now chroma) (now places)) × (Numbers filter (now filters))
+    requires { ⌜ (FilterInput filter picture grid (now luma) (now chroma) (now orders)) × (Numbers filter (now filters))
         × (FilterRooms filter picture (length (now copy)) (length (now differences)) (now taps) (length (now output)))
         × (virtualListValid (picture .width) (ctbSize picture) (now «virtual_columns») ≡ true)
         × (virtualListValid (picture .height) (ctbSize picture) (now «virtual_rows») ≡ true)
@@ -130,7 +130,7 @@ pub fn filter_ctb(
             luma,
             chroma,
             filters,
-            places,
+            orders,
             copy,
             differences,
             taps,

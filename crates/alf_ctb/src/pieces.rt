@@ -24,13 +24,13 @@ pub fn filter_piece(
     luma: &[u16],
     chroma: &[u16],
     filters: &[i16],
-    places: &[u8],
+    orders: &[u8],
     copy: &mut [u16],
     differences: &mut [u16],
     taps: &mut [i16],
     output: &mut [u16],
 )
-    requires { ⌜ (FilterInput filter picture grid (now luma) (now chroma) (now places)) × (Numbers filter (now filters))
+    requires { ⌜ (FilterInput filter picture grid (now luma) (now chroma) (now orders)) × (Numbers filter (now filters))
         × (FilterRooms filter picture (length (now copy)) (length (now differences)) (now taps) (length (now output)))
         × (BlockPiece (picture .width) columns) × (BlockPiece (picture .height) rows) ⌝ }
     ensures { λ _. ⌜ (PieceFiltered filter picture sides columns rows (now (luma .entry)) (now (chroma .entry)) (now (filters .entry))
@@ -46,7 +46,7 @@ pub fn filter_piece(
                 rows,
                 luma,
                 filters,
-                places,
+                orders,
                 copy,
                 differences,
                 taps,

@@ -93,8 +93,8 @@ switched (CrossComponent component) i c at e = index-on (own-tables i c at) comp
 -- ---- its tables
 
 -- those of an accepted input have what a filter needs
-pub tables-accepted : (f : Filter) (i : Input) → fault (operationOf f) i ≡ 0 → {g : Grid} {places : List ℕ}
-    → GridOf (i .layout .picture) g → TapOrders places → TablesAccepted f (inputTables i g places)
+pub tables-accepted : (f : Filter) (i : Input) → fault (operationOf f) i ≡ 0 → {g : Grid} {orders : List ℕ}
+    → GridOf (i .layout .picture) g → TapOrders orders → TablesAccepted f (inputTables i g orders)
 unfolding planeOf
 tables-accepted f i ok grid order =
     let op = operationOf f in

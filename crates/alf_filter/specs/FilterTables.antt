@@ -29,12 +29,12 @@ pub record FilterTables : Type 0 where
   pub fixedMap : List ℕ
   pub luma : List ℕ
   pub chroma : List ℕ
-  pub places : List ℕ
+  pub orders : List ℕ
 
 -- these tables, each by its position, in the order in which functions are given them
 abbrev pub tablesOf : Picture → Grid → List ℕ → List ℕ → List ℕ → List ℕ → List ℤ → List ℕ → List ℤ → List ℕ → List ℕ → List ℕ → List ℕ
     → FilterTables
-tablesOf picture grid virtualColumns virtualRows sliceMap sliceParams bank ctbParams fixedFilters fixedMap luma chroma places = record {
+tablesOf picture grid virtualColumns virtualRows sliceMap sliceParams bank ctbParams fixedFilters fixedMap luma chroma orders = record {
   picture = picture;
   grid = grid;
   virtualColumns = virtualColumns;
@@ -47,12 +47,12 @@ tablesOf picture grid virtualColumns virtualRows sliceMap sliceParams bank ctbPa
   fixedMap = fixedMap;
   luma = luma;
   chroma = chroma;
-  places = places;
+  orders = orders;
 }
 
 -- what judging makes sure of
 pub record TablesAccepted (f : Filter) (t : FilterTables) : Type 0 where
-  pub planes : FilterInput f (t .picture) (t .grid) (t .luma) (t .chroma) (t .places)
+  pub planes : FilterInput f (t .picture) (t .grid) (t .luma) (t .chroma) (t .orders)
   pub virtualColumns : virtualListValid (t .picture .width) (ctbSize (t .picture)) (t .virtualColumns) ≡ true
   pub virtualRows : virtualListValid (t .picture .height) (ctbSize (t .picture)) (t .virtualRows) ≡ true
   pub component : ComponentOf f
@@ -61,11 +61,11 @@ pub record TablesAccepted (f : Filter) (t : FilterTables) : Type 0 where
 
 -- the tables of an input
 abbrev pub inputTables : Input → Grid → List ℕ → FilterTables
-inputTables i grid places =
+inputTables i grid orders =
     tablesOf (i .layout .picture) grid (i .layout .virtualColumns) (i .layout .virtualRows) (i .layout .sliceMap) (i .sliceParams) (i .bank)
-    (i .ctbParams) (i .fixedFilters) (i .fixedMap) (i .luma) (i .chroma) places
+    (i .ctbParams) (i .fixedFilters) (i .fixedMap) (i .luma) (i .chroma) orders
 
 -- the input i is accepted, and these are its tables
 pub record TablesIn (f : Filter) (i : Input) (t : FilterTables) : Type 0 where
   pub accepted : fault (operationOf f) i ≡ 0
-  pub same : inputTables i (t .grid) (t .places) ≡ t
+  pub same : inputTables i (t .grid) (t .orders) ≡ t

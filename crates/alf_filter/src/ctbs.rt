@@ -35,7 +35,7 @@ fn filter_address(
     fixed_map: &[u8],
     luma: &[u16],
     chroma: &[u16],
-    places: &[u8],
+    orders: &[u8],
     sides: &[u16],
     marks: &[u8],
     k: u32,
@@ -46,7 +46,7 @@ fn filter_address(
 )
     ghost { FilterTables }
     requires { λ t. ⌜ tablesOf picture grid (now «virtual_columns») (now «virtual_rows») (now «slice_map») (now «slice_params») (now bank)
-        (now «ctb_params») (now «fixed_filters») (now «fixed_map») (now luma) (now chroma) (now places) ≡ t ⌝ }
+        (now «ctb_params») (now «fixed_filters») (now «fixed_map») (now luma) (now chroma) (now orders) ≡ t ⌝ }
     requires { λ t. ⌜ (TablesAccepted filter t) × (k < grid .columns * grid .rows) × (k < length (now sides)) × (k < length (now marks))
         × (MarksOn filter (now «ctb_params») (now marks))
         × (FilterRooms filter picture (length (now copy)) (length (now differences)) (now taps) (length (now output))) ⌝ }
@@ -87,7 +87,7 @@ fn filter_address(
         luma,
         chroma,
         &filters,
-        places,
+        orders,
         copy,
         differences,
         taps,
@@ -110,14 +110,14 @@ pub(crate) fn filter_marked(
     fixed_map: &[u8],
     luma: &[u16],
     chroma: &[u16],
-    places: &[u8],
+    orders: &[u8],
     sides: &[u16],
     marks: &[u8],
     output: &mut [u16],
 )
     ghost { FilterTables }
     requires { λ t. ⌜ tablesOf picture grid (now «virtual_columns») (now «virtual_rows») (now «slice_map») (now «slice_params») (now bank)
-        (now «ctb_params») (now «fixed_filters») (now «fixed_map») (now luma) (now chroma) (now places) ≡ t ⌝ }
+        (now «ctb_params») (now «fixed_filters») (now «fixed_map») (now luma) (now chroma) (now orders) ≡ t ⌝ }
     requires { λ t. ⌜ (TablesAccepted filter t) × (length (now sides) ≡ 16384) × (length (now marks) ≡ 16384)
         × (MarksOn filter (now «ctb_params») (now marks))
         × (length (now output) ≡ (picture .width / columnRatio filter picture) * (picture .height / rowRatio filter picture)) ⌝ }
@@ -144,7 +144,7 @@ pub(crate) fn filter_marked(
             fixed_map,
             luma,
             chroma,
-            places,
+            orders,
             sides,
             marks,
             k,

@@ -78,8 +78,8 @@ pub fn filter_plane(
     );
     let mut marks: [u8; CTBS] = [0; CTBS];
     mark_listed(filter, ctb_params, ctb_list, &mut marks);
-    let mut places: [u8; ORDERS] = [0; ORDERS];
-    tap_orders(&mut places);
+    let mut orders: [u8; ORDERS] = [0; ORDERS];
+    tap_orders(&mut orders);
     copy_input(filter, luma, chroma, output);
     filter_marked(
         filter,
@@ -95,7 +95,7 @@ pub fn filter_plane(
         fixed_map,
         luma,
         chroma,
-        &places,
+        &orders,
         &sides,
         &marks,
         output,

@@ -191,7 +191,8 @@ module _ (l : Layout) (g : Plane) (test : ℕ → Bool) (v : ℕ → ℕ) where
       (λ t. ap test (eqb-true (addressAt l g i) k t)))
 
   -- one CTB is written where the test passes, and nothing where it fails
-  pub ctb-passes : (k : ℕ) (xs : List ℕ) {ys : List ℕ} → test k ≡ true → ys ≡ painted xs (ofCtb l g k) v → ys ≡ painted xs (ofCtbIf l g test k) v
+  pub ctb-passes : (k : ℕ) (xs : List ℕ) {ys : List ℕ} → test k ≡ true → ys ≡ painted xs (ofCtb l g k) v
+      → ys ≡ painted xs (ofCtbIf l g test k) v
   unfolding ofCtbIf
   ctb-passes k xs e h = paint-is (paint-same (paint-of {xs = xs} h) (λ i below. rw e) (λ i below t. refl))
 

@@ -22,7 +22,7 @@ line-clip-spec =
     (λ c. search needs)
     (λ c κs. search needs)
     (λ c. search needs)
-    (λ c. let start = c .before .before .before .before in low start)
+    (λ c. let start : tie.After-ctb-start = search needs in low start)
     (λ c κs. search needs)
     (λ c boundaries ratio.
     let test = c .before .before in

@@ -22,7 +22,9 @@ virtual-clip-spec =
     (tie.spec Inv-loop μ-loop (λ c. sought-none _ _)
     (λ c. search needs) (λ c. search needs)
     (λ c. omega (arith, c .shared-slice-known2 .given (c .before .before .loop .i)))
-    (λ c κs. (c .before .before .before .before .pre, omega (arith, c .shared-slice-known2 .given (c .before .before .loop .i))))
+    (λ c κs.
+    let s : tie.Start Inv-loop μ-loop = search needs in
+    (s .pre, omega (arith, c .shared-slice-known2 .given (c .before .before .loop .i))))
     (λ c size ctb line ratio.
     let read = c .before .before in
     sought-here (read .before .before .loop .inv) (read .before .loop-test .taken) (c .before .is-near .ensures) (c .if1 .taken))

@@ -15,7 +15,7 @@ use Rattle.alf_class_map.proofs.ctbs.class_piece.Tie as tie
 
 copy-piece-requires : tie.Need-copy-piece-requires
 copy-piece-requires c κs =
-    let s = c .before .before .before .before .before .before in
+    let s : tie.Start = search needs in
     let across = s .pre .1 .numbers in
     let down = s .pre .2 .numbers in (
       across,
@@ -28,7 +28,7 @@ copy-piece-requires c κs =
 
 -- what the function is given
 abbrev start : tie.After-copy-piece → tie.Start
-start c = c .before .before .before .before .before .before .before
+start c = search needs
 
 -- the copy has room
 room : (c : tie.After-copy-piece) → let a = start c .args in copyLength (a .columns) (a .rows) ≤ length (a .copy .now)
@@ -36,7 +36,7 @@ room c = copy-fits (start c .pre .1 .numbers) (start c .pre .2 .numbers) (start 
 
 piece-classes-requires : tie.Need-piece-classes-requires
 piece-classes-requires c κs =
-    let f = c .before .before .before .before .before .before .before .before in
+    let f : tie.After-copy-piece = search needs in
     let copies = f .copy-piece .ensures in
     let pre = start f .pre in (
       rw (paint-of copies .len) (pre .0 .rooms),
@@ -48,9 +48,10 @@ piece-classes-requires c κs =
 
 returns : tie.Need-returns
 returns c =
-    let f = c .before .before .before .before .before .before .before .before .before .before .before .before .before in
+    let f : tie.After-copy-piece = search needs in
+    let classed : tie.After-piece-classes = search needs in
     let pre = start f .pre in
-    let written = rw (blocks (pre .1) .last, blocks (pre .2) .last) at (c .before .before .before .before .piece-classes .ensures) in
+    let written = rw (blocks (pre .1) .last, blocks (pre .2) .last) at (classed .piece-classes .ensures) in
     λ l ctb of across down.
     paint-is (paint-same (paint-of written) (λ k h. refl)
     (λ k h. class-same of (pre .0 .rooms .picture .grid) across down _ _ _ (f .copy-piece .ensures) (room f) k))

@@ -18,7 +18,7 @@ use Rattle.alf_ctb.proofs.ctbs.filter_ctb.Statement.{statement}
 use Rattle.alf_ctb.proofs.ctbs.filter_ctb.Tie as tie
 
 abbrev Inv-loop : tie.InvT-loop
-Inv-loop filter picture grid virtual-columns virtual-rows ctb sides luma chroma filters places copy₀ differences₀ taps₀ output₀ axis
+Inv-loop filter picture grid virtual-columns virtual-rows ctb sides luma chroma filters orders copy₀ differences₀ taps₀ output₀ axis
     bottom y₀ copy differences taps output y =
     Walk (rowAxis picture grid sides (walkLine filter) (ctb .row)) virtual-rows y
     × (length copy ≡ length copy₀) × (length differences ≡ length differences₀) × TapNumbers taps × (length taps ≡ length taps₀)
@@ -26,7 +26,7 @@ Inv-loop filter picture grid virtual-columns virtual-rows ctb sides luma chroma 
     × RowsFiltered filter picture grid virtual-columns virtual-rows ctb sides luma chroma filters y output₀ output
 
 abbrev μ-loop : tie.MeasureT-loop
-μ-loop filter picture grid virtual-columns virtual-rows ctb sides luma chroma filters places copy₀ differences₀ taps₀ output₀ axis bottom
+μ-loop filter picture grid virtual-columns virtual-rows ctb sides luma chroma filters orders copy₀ differences₀ taps₀ output₀ axis bottom
     y₀ copy differences taps output y = bottom - y
 
 -- what the function is given, seen from where the axis is known

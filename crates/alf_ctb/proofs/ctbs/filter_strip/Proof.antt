@@ -19,7 +19,7 @@ use Rattle.alf_ctb.proofs.ctbs.filter_strip.Statement.{statement}
 use Rattle.alf_ctb.proofs.ctbs.filter_strip.Tie as tie
 
 abbrev Inv-loop : tie.InvT-loop
-Inv-loop filter picture grid virtual-columns sides rows luma chroma filters places copy₀ differences₀ taps₀ output₀ axis right
+Inv-loop filter picture grid virtual-columns sides rows luma chroma filters orders copy₀ differences₀ taps₀ output₀ axis right
     x₀ copy differences taps output x =
     Walk (columnAxis picture grid sides (axis .place)) virtual-columns x
     × (length copy ≡ length copy₀) × (length differences ≡ length differences₀) × TapNumbers taps × (length taps ≡ length taps₀)
@@ -28,7 +28,7 @@ Inv-loop filter picture grid virtual-columns sides rows luma chroma filters plac
     filters x output₀ output)
 
 abbrev μ-loop : tie.MeasureT-loop
-μ-loop filter picture grid virtual-columns sides rows luma chroma filters places copy₀ differences₀ taps₀ output₀ axis right x₀
+μ-loop filter picture grid virtual-columns sides rows luma chroma filters orders copy₀ differences₀ taps₀ output₀ axis right x₀
     copy differences taps output x = right - x
 
 -- what the function is given, seen from where the axis is known

@@ -10,7 +10,7 @@ use Rattle.alf_ctb.proofs.tables.load.Tie as tie
 
 load-luma-requires : tie.Need-load-luma-requires
 load-luma-requires c κs =
-    let s = c .before .before .before .before .before .before .before in
+    let s : tie.Start = search needs in
     let a = s .args in (
       s .pre .1,
       subst (λ (f : Filter). FixedGiven f (a .depth) (a .fixed-filters .now) (a .fixed-map .now)) (c .before .enum-told .given .1)
@@ -20,12 +20,12 @@ load-luma-requires c κs =
 
 load-chroma-requires : tie.Need-load-chroma-requires
 load-chroma-requires c κs =
-    let s = c .before .before .before .before .before .before .before .before in
+    let s : tie.Start = search needs in
     (subst ComponentOf (c .before .before .filter .given .1) (s .pre .0), s .pre .1, s .pre .4)
 
 load-cross-requires : tie.Need-load-cross-requires
 load-cross-requires c κs =
-    let s = c .before .before .before .before .before .before .before .before in
+    let s : tie.Start = search needs in
     let e = c .before .before .filter2 .given .1 in (
       subst ComponentOf e (s .pre .0),
       s .pre .1,
@@ -48,11 +48,13 @@ load-spec =
     (λ c. luma-loaded _ _ _ _ _ _ _ _ _ _ (c .before .before .before .enum-told .given .1) (c .before .load-luma .ensures))
     (λ c. search needs)
     (λ c.
-    chroma-loaded _ _ _ _ _ _ _ _ _ _ (c .before .before .before .before .filter .given .1)
-    (omega (arith, c .filters2 .given, c .before .before .before .before .before .before .before .before .before .before .pre .4))
+    let s : tie.Start = search needs in
+    let told : tie.After-filter = search needs in
+    chroma-loaded _ _ _ _ _ _ _ _ _ _ (told .filter .given .1) (omega (arith, c .filters2 .given, s .pre .4))
     (c .before .load-chroma .ensures))
     (λ c. search needs)
     (λ c.
-    cross-loaded _ _ _ _ _ _ _ _ _ _ (c .before .before .before .before .filter2 .given .1)
-    (omega (arith, c .filters3 .given, c .before .before .before .before .before .before .before .before .before .before .pre .4))
+    let s : tie.Start = search needs in
+    let told : tie.After-filter2 = search needs in
+    cross-loaded _ _ _ _ _ _ _ _ _ _ (told .filter2 .given .1) (omega (arith, c .filters3 .given, s .pre .4))
     (c .before .load-cross .ensures)))

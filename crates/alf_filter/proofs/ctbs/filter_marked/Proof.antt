@@ -26,17 +26,17 @@ use Rattle.alf_filter.proofs.ctbs.filter_marked.Statement.{statement}
 use Rattle.alf_filter.proofs.ctbs.filter_marked.Tie as tie
 
 abbrev Inv-loop : tie.InvT-loop
-Inv-loop filter picture grid virtual-columns virtual-rows slice-map slice-params bank ctb-params fixed-filters fixed-map luma chroma places
+Inv-loop filter picture grid virtual-columns virtual-rows slice-map slice-params bank ctb-params fixed-filters fixed-map luma chroma orders
     sides marks output₀ total copy₀ differences₀ taps₀ k₀ output copy differences taps k =
     let t = tablesOf picture grid virtual-columns virtual-rows slice-map slice-params bank ctb-params fixed-filters fixed-map luma chroma
-    places in
+    orders in
     (k ≤ grid .columns * grid .rows) × (grid .columns * grid .rows ≤ 16384) × (length copy ≡ area) × (length differences ≡ 4 * area)
     × (length taps ≡ 3072) × TapNumbers taps × (length output ≡ length output₀)
     × ((i : Input) → TablesIn filter i t → SidesPlanned (i .layout) sides → let plane = outputPlane (operationOf filter) (i .layout) in
     Paint output₀ (beforeCtbIf (i .layout) plane (isMarked marks) k) (atIndex plane (sampleOf filter i)) output)
 
 abbrev μ-loop : tie.MeasureT-loop
-μ-loop filter picture grid virtual-columns virtual-rows slice-map slice-params bank ctb-params fixed-filters fixed-map luma chroma places
+μ-loop filter picture grid virtual-columns virtual-rows slice-map slice-params bank ctb-params fixed-filters fixed-map luma chroma orders
     sides marks output₀ total copy₀ differences₀ taps₀ k₀ output copy differences taps k =
     total - k
 

@@ -28,17 +28,18 @@ copy-piece-spec =
     (λ c. search needs)
     (λ c. (omega arith, rw zero-mul (paint-none (λ k. run-none _ k))))
     (λ c κs.
-    let s = c .before .before .before .before .before .before in
+    let s : tie.Start Inv-loop μ-loop = search needs in
     (s .pre .0, s .pre .1, s .pre .2, s .pre .3, s .pre .4, omega (arith, s .pre .5, c .before .before .loop .inv .1 .len), omega arith))
     (λ c. omega arith)
     (λ c. omega arith)
-    (λ c. (
+    (λ c.
+    let looped : tie.At-loop Inv-loop μ-loop = search needs in (
       omega arith,
-      paint-call _ _ (c .before .before .before .before .before .loop .inv .1) (c .before .before .copy-row-of .ensures) (λ k _ t. refl)
+      paint-call _ _ (looped .loop .inv .1) (c .before .before .copy-row-of .ensures) (λ k _ t. refl)
           (λ k _. run-join _ _ _ _ _ _ (omega arith) k),
     ))
     (λ c. search needs)
     (λ c.
-    let s = c .before .before .before .before .before in
+    let s : tie.Start Inv-loop μ-loop = search needs in
     let all : c .before .loop .j ≡ pitch (s .args .rows) = omega arith in
     rw all at (paint-is (c .before .loop .inv .1))))

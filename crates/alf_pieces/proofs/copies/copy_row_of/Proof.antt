@@ -15,10 +15,11 @@ plane-room : (c : tie.After-row-of) → let s = c .before .before .before in
 plane-room c = let s = c .before .before .before in row-room _ _ _ _ (omega arith) (s .pre .4)
 
 -- the row that is written
-copy-room : (c : tie.After-extent) → let s = c .before .before .before .before .before .before in
+copy-room : (c : tie.After-extent) → let read = c .before .before .before in let s = read .before .before .before in
     s .args .j * (c .extent .result + 6) + (c .extent .result + 6) ≤ length (s .args .copy .now)
 copy-room c =
-    let s = c .before .before .before .before .before .before in
+    let read = c .before .before .before in
+    let s = read .before .before .before in
     row-room _ (pitch (s .args .rows)) _ _ (s .pre .6) (rw (c .extent .ensures) (s .pre .5))
 
 pub copy-row-of-spec : {M : Type 1} → statement M
@@ -34,16 +35,18 @@ copy-row-of-spec =
     (λ c. search needs)
     (λ c. omega (arith, copy-room (c .before .before)))
     (λ c κs.
-    let s = c .before .before .before .before .before .before .before .before in
+    let wide = c .before .before in
+    let read : tie.After-row-of = search needs in
+    let s : tie.Start = search needs in
     let p = s .pre .0 in
-    let n = c .before .before .extent .ensures in
-    let low = lowest-within _ _ _ _ p (c .before .before .before .before .row-lowest .ensures) in
-    let high = limit-within _ _ _ _ p (c .before .before .before .row-limit .ensures) in (
+    let n = wide .extent .ensures in
+    let low = lowest-within _ _ _ _ p (wide .before .before .row-lowest .ensures) in
+    let high = limit-within _ _ _ _ p (wide .before .row-limit .ensures) in (
       low,
       omega (arith, n, p .filled),
       omega (arith, n, p .filled, high),
-      omega (arith, high, plane-room (c .before .before .before .before .before)),
-      copy-room (c .before .before),
+      omega (arith, high, plane-room read),
+      copy-room wide,
     ))
     (λ c. search needs)
     (λ c. search row-is))

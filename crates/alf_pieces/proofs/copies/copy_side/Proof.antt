@@ -37,9 +37,10 @@ copy-side-spec =
     (λ c. omega arith)
     (λ c. omega arith)
     (λ c. omega arith)
-    (λ c. (
+    (λ c.
+    let looped : tie.At-loop Inv-loop μ-loop = search needs in (
       omega arith,
-      paint-set _ _ (c .before .before .before .before .loop .inv .1) (omega arith)
+      paint-set _ _ (looped .loop .inv .1) (omega arith)
           (side-value _ _ _ _ _ _ _ _ _ _ (c .before .before .position .ensures) (c .before .held .ensures) (omega arith))
           (λ k _. run-more _ _ k),
     ))

@@ -39,7 +39,7 @@ piece-at-spec =
     let stop = c .before .before in
     let s = stop .before .before in
     in-ctb _ (s .pre) (omega (arith, c .previous .ensures, stop .piece-end .ensures))
-        (omega (arith, c .previous .ensures, stop .piece-end .ensures)))
+    (omega (arith, c .previous .ensures, stop .piece-end .ensures)))
     (λ c κs. search needs)
     (λ c κs. search needs)
     returns)

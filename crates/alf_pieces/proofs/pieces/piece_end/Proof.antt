@@ -54,7 +54,7 @@ piece-end-spec =
     let asked = c .before in
     let block = asked .before .before in
     scan-on (block .before .loop .inv) (one-left block) (asked .before .find-clip .result) (asked .before .find-clip .ensures 1)
-        (asked .is-open .ensures)
+    (asked .is-open .ensures)
     (not-false (asked .is-open .result) (c .if1 .left)))
     (λ c.
     let loop = c .before in
