@@ -1,8 +1,7 @@
 // The chroma filter of a component, 0 (Cb) or 1 (Cr).
 ghost use lib.ListN.{length};
-ghost use Rattle.alf_spec.specs.Input.{chroma as chromaOf, layoutOf, chromaInput};
+ghost use Rattle.alf_spec.specs.Input.{chroma as chromaOf, pictureOf, layoutOf, chromaInput};
 ghost use Rattle.alf_spec.specs.Runs.{Ran};
-ghost use Rattle.alf_c.specs.Calls.{pictureOf};
 use alf::number;
 use alf_spec::Picture;
 

@@ -1,8 +1,7 @@
 // The class map: one number for each 4 by 4 luma block, class + 32 * transpose.
 ghost use lib.ListN.{length};
-ghost use Rattle.alf_spec.specs.Input.{classes as classesOf, layoutOf, classesInput};
+ghost use Rattle.alf_spec.specs.Input.{classes as classesOf, pictureOf, layoutOf, classesInput};
 ghost use Rattle.alf_spec.specs.Runs.{Ran};
-ghost use Rattle.alf_c.specs.Calls.{pictureOf};
 use alf::number;
 use alf_spec::Picture;
 

@@ -1,8 +1,7 @@
 // The cross-component filter: the filtered plane of a component, corrected from the unfiltered luma plane.
 ghost use lib.ListN.{length};
-ghost use Rattle.alf_spec.specs.Input.{crossComponent, layoutOf, crossInput};
+ghost use Rattle.alf_spec.specs.Input.{crossComponent, pictureOf, layoutOf, crossInput};
 ghost use Rattle.alf_spec.specs.Runs.{Ran};
-ghost use Rattle.alf_c.specs.Calls.{pictureOf};
 use alf::number;
 use alf_spec::Picture;
 

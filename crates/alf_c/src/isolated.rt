@@ -1,10 +1,10 @@
 // The isolation test (01: shut test of an area).
 ghost use mathlib.Core.Path.{_≡_};
-ghost use Rattle.alf_spec.specs.Input.{layoutOf};
+ghost use Rattle.alf_spec.specs.Input.{pictureOf, layoutOf};
 ghost use Rattle.alf_spec.specs.Faults.{isolationFault};
 ghost use Rattle.alf_spec.specs.Isolation.{isolated as isolatedBy};
 ghost use Rattle.alf_spec.specs.Answers.{kept};
-ghost use Rattle.alf_c.specs.Calls.{pictureOf, isolatedByte};
+ghost use Rattle.alf_c.specs.Calls.{isolatedByte};
 use alf::fault_number;
 use alf_spec::Isolation;
 use alf_spec::Picture;

@@ -1,8 +1,7 @@
 // The luma filter: the luma plane with each listed CTB whose flag is on filtered.
 ghost use lib.ListN.{length};
-ghost use Rattle.alf_spec.specs.Input.{luma as lumaOf, layoutOf, lumaInput};
+ghost use Rattle.alf_spec.specs.Input.{luma as lumaOf, pictureOf, layoutOf, lumaInput};
 ghost use Rattle.alf_spec.specs.Runs.{Ran};
-ghost use Rattle.alf_c.specs.Calls.{pictureOf};
 use alf::number;
 use alf_spec::Picture;
 
