@@ -26,8 +26,8 @@ use Rattle.alf_params.specs.Filters.{LumaFilters, ChromaFilter}
 use Rattle.alf_luma.specs.Samples.{LumaPieceInput}
 use Rattle.alf_chroma.specs.Pieces.{ChromaWork, unlinedPlane}
 use Rattle.alf_cross.specs.Pieces.{CrossFilter, CrossWork}
-use Rattle.alf_ctb.specs.declared.Filter.{Filter}
-use Rattle.alf_ctb.specs.declared.Filter.the-variants.{Luma, Chroma, CrossComponent}
+use Rattle.alf_spec.specs.declared.Filter.{Filter}
+use Rattle.alf_spec.specs.declared.Filter.the-variants.{Luma, Chroma, CrossComponent}
 use Rattle.alf_ctb.specs.FilterWork.{FilterInput, FilterRooms, Numbers, PieceFiltered}
 
 -- ---- what they are given

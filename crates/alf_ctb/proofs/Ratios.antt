@@ -9,8 +9,8 @@ use Rattle.alf_spec.proofs.Ratios.{Ratio, whole, chroma-ratios}
 use Rattle.alf_pieces.specs.Pieces.{WalkLine}
 use Rattle.alf_pieces.proofs.PieceWalk.{walk-none, walk-luma}
 use Rattle.alf_taps.specs.Spread.{TapNumbers}
-use Rattle.alf_ctb.specs.declared.Filter.{Filter}
-use Rattle.alf_ctb.specs.declared.Filter.the-variants.{Luma, Chroma, CrossComponent}
+use Rattle.alf_spec.specs.declared.Filter.{Filter}
+use Rattle.alf_spec.specs.declared.Filter.the-variants.{Luma, Chroma, CrossComponent}
 use Rattle.alf_ctb.specs.Filters.{columnRatio, rowRatio, walkLine}
 use Rattle.alf_ctb.specs.FilterWork.{FilterRooms}
 

@@ -11,8 +11,8 @@ use Rattle.alf_spec.specs.Parameters.{crossAps, crossIndex, crossCoeff}
 use Rattle.alf_math.specs.Integers.{CoeffRange, ClipRange}
 use Rattle.alf_params.specs.Filters.{LumaFilters, FilterNumbers, ChromaFilter}
 use Rattle.alf_params.specs.Tables.{TablesGiven, FixedOf}
-use Rattle.alf_ctb.specs.declared.Filter.{Filter}
-use Rattle.alf_ctb.specs.declared.Filter.the-variants.{Luma, Chroma, CrossComponent}
+use Rattle.alf_spec.specs.declared.Filter.{Filter}
+use Rattle.alf_spec.specs.declared.Filter.the-variants.{Luma, Chroma, CrossComponent}
 use Rattle.alf_ctb.specs.Filters.{OwnFilter}
 use Rattle.alf_ctb.specs.FilterWork.{Numbers}
 use Rattle.alf_ctb.specs.Tables.{FixedSame}

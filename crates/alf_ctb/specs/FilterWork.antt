@@ -23,9 +23,10 @@ use Rattle.alf_pieces.specs.Copies.{area}
 use Rattle.alf_taps.specs.Spread.{TapNumbers}
 use Rattle.alf_params.specs.Filters.{FilterNumbers}
 use Rattle.alf_luma.specs.SpreadFilters.{TapOrders}
-use Rattle.alf_ctb.specs.declared.Filter.{Filter}
-use Rattle.alf_ctb.specs.declared.Filter.the-variants.{Luma, Chroma, CrossComponent}
-use Rattle.alf_ctb.specs.Filters.{operationOf, columnRatio, rowRatio, walkPlane, sampleOf, OwnFilter}
+use Rattle.alf_spec.specs.declared.Filter.{Filter}
+use Rattle.alf_spec.specs.declared.Filter.the-variants.{Luma, Chroma, CrossComponent}
+use Rattle.alf_spec.specs.Filters.{operationOf}
+use Rattle.alf_ctb.specs.Filters.{columnRatio, rowRatio, walkPlane, sampleOf, OwnFilter}
 
 -- an accepted picture, its planes as far as the filter is given them, and the tap order
 pub record FilterInput (f : Filter) (p : Picture) (g : Grid) (lumaSamples chromaSamples orders : List ℕ) : Type 0 where

@@ -5,7 +5,7 @@ use Prim.Native.Nat.{ℕ}
 use lib.IntN.{ℤ}
 use Rattle.alf_spec.specs.declared.Ctb.{Ctb}
 use Rattle.alf_spec.specs.declared.Picture.{Picture}
-use Rattle.alf_spec.specs.Input.{Layout, Operation, luma, chroma, crossComponent, Input}
+use Rattle.alf_spec.specs.Input.{Layout, Input}
 use Rattle.alf_spec.specs.Geometry.{Plane, subWidth, subHeight, planeOf}
 use Rattle.alf_spec.specs.Luma.{lumaSample}
 use Rattle.alf_spec.specs.Chroma.{chromaSample}
@@ -13,14 +13,8 @@ use Rattle.alf_spec.specs.CrossComponent.{crossSample}
 use Rattle.alf_spec.specs.Process.{lumaOn, chromaOn, crossOn}
 use Rattle.alf_params.specs.Filters.{LumaFilters, ChromaFilter}
 use Rattle.alf_cross.specs.Pieces.{CrossFilter}
-use Rattle.alf_ctb.specs.declared.Filter.{Filter}
-use Rattle.alf_ctb.specs.declared.Filter.the-variants.{Luma, Chroma, CrossComponent}
-
--- its operation
-abbrev pub operationOf : Filter → Operation
-operationOf Luma = luma
-operationOf (Chroma component) = chroma component
-operationOf (CrossComponent component) = crossComponent component
+use Rattle.alf_spec.specs.declared.Filter.{Filter}
+use Rattle.alf_spec.specs.declared.Filter.the-variants.{Luma, Chroma, CrossComponent}
 
 -- the ratios to luma of the plane that it writes
 abbrev pub columnRatio : Filter → Picture → ℕ

@@ -5,8 +5,8 @@ use mathlib.Core.List.{List}
 use lib.IntN.{ℤ}
 use Rattle.alf_spec.specs.Input.{Input}
 use Rattle.alf_params.specs.Tables.{ctbNumber, FixedTables, FixedOf}
-use Rattle.alf_ctb.specs.declared.Filter.{Filter}
-use Rattle.alf_ctb.specs.declared.Filter.the-variants.{Luma, Chroma, CrossComponent}
+use Rattle.alf_spec.specs.declared.Filter.{Filter}
+use Rattle.alf_spec.specs.declared.Filter.the-variants.{Luma, Chroma, CrossComponent}
 
 -- its component, if it has one, is 0 (Cb) or 1 (Cr)
 abbrev pub ComponentOf : Filter → Type 0

@@ -7,10 +7,3 @@ mod tables;
 pub use ctbs::filter_ctb;
 pub use tables::is_on;
 pub use tables::load;
-
-// Which filter; a component is 0 (Cb) or 1 (Cr).
-pub enum Filter {
-    Luma,
-    Chroma(u8),
-    CrossComponent(u8),
-}

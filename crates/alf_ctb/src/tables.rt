@@ -10,13 +10,13 @@ ghost use Rattle.alf_params.specs.Tables.{CtbTables, TablesGiven};
 ghost use Rattle.alf_ctb.specs.Filters.{isOn, OwnFilter};
 ghost use Rattle.alf_ctb.specs.FilterWork.{Numbers};
 ghost use Rattle.alf_ctb.specs.Tables.{ComponentOf, FixedGiven, FixedSame, Switched};
-use crate::Filter;
 use alf_params::chroma_on;
 use alf_params::cross_on;
 use alf_params::load_chroma;
 use alf_params::load_cross;
 use alf_params::load_luma;
 use alf_params::luma_on;
+use alf_spec::Filter;
 
 // The flag or index of the CTB at address k.
 pub fn is_on(filter: Filter, ctb_params: &[u8], k: usize) -> bool

@@ -25,9 +25,10 @@ use Rattle.alf_luma.specs.SpreadFilters.{TapOrders}
 use Rattle.alf_params.specs.Tables.{TablesGiven}
 use Rattle.alf_params.proofs.AcceptedTables.{accepted-tables, accepted-fixed}
 use Rattle.alf_params.proofs.TableNumbers.{own-tables, index-on}
-use Rattle.alf_ctb.specs.declared.Filter.{Filter}
-use Rattle.alf_ctb.specs.declared.Filter.the-variants.{Luma, Chroma, CrossComponent}
-use Rattle.alf_ctb.specs.Filters.{operationOf, columnRatio, rowRatio, planeFiltered, isOn, sampleOf}
+use Rattle.alf_spec.specs.declared.Filter.{Filter}
+use Rattle.alf_spec.specs.declared.Filter.the-variants.{Luma, Chroma, CrossComponent}
+use Rattle.alf_spec.specs.Filters.{operationOf}
+use Rattle.alf_ctb.specs.Filters.{columnRatio, rowRatio, planeFiltered, isOn, sampleOf}
 use Rattle.alf_ctb.specs.Tables.{ComponentOf, FixedGiven, FixedSame, Switched}
 use Rattle.alf_filter.specs.FilterTables.{FilterTables, TablesAccepted, inputTables, TablesIn}
 

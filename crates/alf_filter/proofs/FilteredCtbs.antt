@@ -21,8 +21,9 @@ use Rattle.alf_math.proofs.Grids.{few-in-layout}
 use Rattle.alf_pieces.specs.CtbRegions.{addressAt, inCtbIf, beforeCtbIf}
 use Rattle.alf_pieces.proofs.CtbRegions.{column-in, row-in, every-ctb-if}
 use Rattle.alf_lists.proofs.Painted.{Paint, paint-is, paint-of, paint-same}
-use Rattle.alf_ctb.specs.declared.Filter.{Filter}
-use Rattle.alf_ctb.specs.Filters.{operationOf, columnRatio, rowRatio, planeFiltered, isOn, sampleOf}
+use Rattle.alf_spec.specs.declared.Filter.{Filter}
+use Rattle.alf_spec.specs.Filters.{operationOf}
+use Rattle.alf_ctb.specs.Filters.{columnRatio, rowRatio, planeFiltered, isOn, sampleOf}
 use Rattle.alf_ctb.proofs.Ratios.{filter-ratios}
 use Rattle.alf_filter.specs.FilteredCtbs.{isListed, markOf, onMark, isMarked, MarksOn, MarkedFiltered}
 use Rattle.alf_filter.proofs.AcceptedFilters.{output-plane, layout-accepted, switched, result-is, plane-length}

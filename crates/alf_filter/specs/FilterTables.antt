@@ -10,8 +10,8 @@ use Rattle.alf_spec.specs.Input.{Input}
 use Rattle.alf_spec.specs.Geometry.{ctbSize}
 use Rattle.alf_spec.specs.Faults.{virtualListValid, fault}
 use Rattle.alf_params.specs.Tables.{CtbTables}
-use Rattle.alf_ctb.specs.declared.Filter.{Filter}
-use Rattle.alf_ctb.specs.Filters.{operationOf}
+use Rattle.alf_spec.specs.declared.Filter.{Filter}
+use Rattle.alf_spec.specs.Filters.{operationOf}
 use Rattle.alf_ctb.specs.Tables.{ComponentOf, FixedGiven}
 use Rattle.alf_ctb.specs.FilterWork.{FilterInput}
 

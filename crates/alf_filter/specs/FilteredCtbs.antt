@@ -10,8 +10,9 @@ use Rattle.alf_spec.specs.Input.{Input}
 use Rattle.alf_spec.specs.Geometry.{ctbOf}
 use Rattle.alf_spec.specs.Process.{atIndex, outputPlane}
 use Rattle.alf_pieces.specs.CtbRegions.{ofCtbIf, inCtbIf}
-use Rattle.alf_ctb.specs.declared.Filter.{Filter}
-use Rattle.alf_ctb.specs.Filters.{operationOf, isOn, sampleOf}
+use Rattle.alf_spec.specs.declared.Filter.{Filter}
+use Rattle.alf_spec.specs.Filters.{operationOf}
+use Rattle.alf_ctb.specs.Filters.{isOn, sampleOf}
 use Rattle.alf_ctb.specs.Tables.{Switched}
 
 -- the address k stands in the list

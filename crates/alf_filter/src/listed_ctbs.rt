@@ -7,8 +7,8 @@ ghost use Rattle.alf_spec.specs.Lists.{painted};
 ghost use Rattle.alf_spec.specs.Input.{Input};
 ghost use Rattle.alf_ctb.specs.Tables.{ComponentOf};
 ghost use Rattle.alf_filter.specs.FilteredCtbs.{isListed, markOf, onMark};
-use alf_ctb::Filter;
 use alf_ctb::is_on;
+use alf_spec::Filter;
 
 fn wide(n: u32) -> usize
     ensures { λ r. ⌜ r ≡ n ⌝ }

@@ -4,16 +4,17 @@ ghost use lib.ListN.{length};
 ghost use Rattle.alf_spec.specs.Input.{layoutOf, Input, inputOf};
 ghost use Rattle.alf_spec.specs.Faults.{fault};
 ghost use Rattle.alf_spec.specs.Process.{result};
-ghost use Rattle.alf_ctb.specs.Filters.{operationOf, planeFiltered};
+ghost use Rattle.alf_spec.specs.Filters.{operationOf};
+ghost use Rattle.alf_ctb.specs.Filters.{planeFiltered};
 use crate::ctbs::filter_marked;
 use crate::listed_ctbs::mark_listed;
-use alf_ctb::Filter;
 use alf_luma::ORDERS;
 use alf_luma::tap_orders;
 use alf_math::grid::grid;
 use alf_pieces::copies::copy_run;
 use alf_sides::CTBS;
 use alf_sides::plan_sides;
+use alf_spec::Filter;
 use alf_spec::Picture;
 
 // A plane over another of its size.

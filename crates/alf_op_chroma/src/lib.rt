@@ -3,9 +3,9 @@ ghost use lib.ListN.{length};
 ghost use Rattle.alf_spec.specs.Input.{chroma as chromaOf, layoutOf, chromaInput};
 ghost use Rattle.alf_spec.specs.Answers.{number};
 ghost use Rattle.alf_spec.specs.Runs.{Ran};
-use alf_ctb::Filter;
 use alf_filter::filter_plane;
 use alf_spec::Answer;
+use alf_spec::Filter;
 use alf_spec::Picture;
 use alf_validate::judge_chroma;
 

@@ -2,6 +2,7 @@
 pub mod Lists
 pub mod Arithmetic
 pub mod Input
+pub mod Filters
 pub mod Geometry
 pub mod Boundary
 pub mod Padding

@@ -42,6 +42,13 @@ pub enum Fault {
     Position,
 }
 
+// Which filter; a component is 0 (Cb) or 1 (Cr).
+pub enum Filter {
+    Luma,
+    Chroma(u8),
+    CrossComponent(u8),
+}
+
 // The answer of the class map and of the three filters.
 pub enum Answer {
     Accepted,

@@ -1,3 +1,3 @@
 -- Laws that the proofs of this crate cite.
-pub mod LowestFault
 pub mod OwnTests
+pub mod LowestFault

@@ -9,21 +9,24 @@ use lib.Dec.{eqb, ltb}
 use lib.IntN.{ℤ}
 use lib.ListN.{length}
 use Rattle.alf_spec.specs.declared.Fault.{Fault}
+use Rattle.alf_spec.specs.declared.Filter.{Filter}
 use Rattle.alf_spec.specs.declared.Answer.{Answer}
 use Rattle.alf_spec.specs.declared.Answer.the-variants as answer
 use Rattle.alf_spec.specs.Lists.{every}
 use Rattle.alf_spec.specs.Input.{Layout, Input, inputOf}
+use Rattle.alf_spec.specs.Filters.{operationOf}
 use Rattle.alf_spec.specs.Geometry.{planeOf, ctbTotal}
 use Rattle.alf_spec.specs.Answers.{number}
 use Rattle.alf_spec.specs.Faults.{bitDepthValid, layoutLengthsValid, filterLengthsValid, cornersValid, sliceCorner, slicesValid}
-use Rattle.alf_spec.specs.Faults.{layoutFault}
+use Rattle.alf_spec.specs.Faults.{componentValid, layoutFault, fault}
 use Rattle.alf_spec.proofs.Tests.{and-same, both}
 use Rattle.alf_spec.proofs.Accepted.{AcceptedLayout, table-lengths, chain}
 use Rattle.alf_spec.proofs.Faults.{layout-leaves, layout-goes}
 use Rattle.alf_math.proofs.Grids.{few-in-layout}
 use Rattle.alf_validate_tables.specs.Tables.{mapLayout, tablesInput, filterTablesFault, TablesFit}
-use Rattle.alf_validate_tables.proofs.FilterTables.{tablesOf, tables-of}
-use Rattle.alf_validate.specs.Filters.{filterFault}
+use Rattle.alf_validate_tables.proofs.FilterTables.{tablesOf, tables-of, tables-fault}
+use Rattle.alf_validate.specs.Filters.{ownLengthsValid}
+use Rattle.alf_validate.proofs.OwnTests.{own-lengths, own-same}
 
 -- a test that counts only where the one before it passes
 beside : (a b c : Bool) → (a ≡ true → b ≡ c) → (a && b) ≡ (a && c)
@@ -73,7 +76,11 @@ module _ (l : Layout) (component own r : Bool) (sliceParams : List ℕ) (bank : 
       tables-fit (inputOf l [] [] sliceParams bank ctbParams [] [] [] 0) (p .0) (sym (fit (table-lengths l (p .0 .lengths) .sliceMap))
       ∙ both r own (p .2) .0)
 
-  module _ (lumaSamples chromaSamples ctbList : List ℕ) (fixedFilters : List ℤ) (fixedMap : List ℕ) (n : ℕ) where
+  -- the filter f, whose own tests these are
+  module _ (f : Filter) (lumaSamples chromaSamples ctbList : List ℕ) (fixedFilters : List ℤ) (fixedMap : List ℕ) (n : ℕ)
+      (chosen : component ≡ componentValid (operationOf f) (l .picture))
+      (lengths : own
+      ≡ ownLengthsValid f (inputOf (mapLayout (l .picture) []) lumaSamples chromaSamples [] [] [] [] fixedFilters fixedMap n)) where
     abbrev i : Input
     i = inputOf l lumaSamples chromaSamples sliceParams bank ctbParams ctbList fixedFilters fixedMap n
 
@@ -83,10 +90,21 @@ module _ (l : Layout) (component own r : Bool) (sliceParams : List ℕ) (bank : 
     layout-same =
         rw (beside (layoutLengthsValid l) (r && own) (filterLengthsValid i && own) (λ e. and-same (fit (table-lengths l e .sliceMap)) refl))
 
-    pub filter-rejects : {f : Fault} → a ≡ answer.Rejected f → number a ≡ filterFault i component own
-    unfolding filterFault
-    filter-rejects = layout-leaves l _ _ _ _ layout-same (filterTablesFault i) a judged
+    -- the tests are those of the filter's operation
+    filter-fault : layoutFault l component (filterLengthsValid i && own) (filterTablesFault f i) ≡ fault (operationOf f) i
+    unfolding fault
+    filter-fault =
+        rw (
+          chosen,
+          lengths,
+          own-same l sliceParams bank ctbParams ctbList lumaSamples chromaSamples fixedFilters fixedMap n f,
+          own-lengths f i,
+          tables-fault f i,
+        )
 
-    pub filter-accepts : a ≡ answer.Accepted → {m : ℕ} → m ≡ filterTablesFault (tablesOf i) → m ≡ filterFault i component own
-    unfolding filterFault
-    filter-accepts told e = layout-goes l _ _ _ _ layout-same (filterTablesFault i) a judged told (e ∙ tables-of i)
+    pub filter-rejects : {e : Fault} → a ≡ answer.Rejected e → number a ≡ fault (operationOf f) i
+    filter-rejects told = layout-leaves l _ _ _ _ layout-same (filterTablesFault f i) a judged told ∙ filter-fault
+
+    pub filter-accepts : a ≡ answer.Accepted → {m : ℕ} → m ≡ filterTablesFault f (tablesOf i) → m ≡ fault (operationOf f) i
+    filter-accepts told e =
+        layout-goes l _ _ _ _ layout-same (filterTablesFault f i) a judged told (e ∙ tables-of f i) ∙ filter-fault

@@ -1,19 +1,20 @@
 -- The fault of each operation that has an output, where its code has the answers to the operation's own tests. Assumes nothing.
 use mathlib.Core.Path.{_≡_, refl, sym, _∙_}
 use mathlib.Core.Bool.{Bool, true, false, not, _&&_, and-true}
-use mathlib.Core.List.{List}
+use mathlib.Core.List.{List, []}
 use Prim.Native.Nat.{ℕ}
 use lib.Dec.{eqb}
 use lib.IntN.{ℤ}
 use lib.ListN.{length}
-use Rattle.alf_spec.specs.Lists.{everyFrom}
-use Rattle.alf_spec.specs.Input.{Layout, classes, luma, chroma, crossComponent, classesInput, lumaInput, chromaInput, crossInput}
-use Rattle.alf_spec.specs.Geometry.{lumaPlane, chromaPlane, classPlane, planeLength}
-use Rattle.alf_spec.specs.Faults.{componentValid, fixedLengthsValid, lengthsValid, fixedValid, samplesValid, unless, layoutFault}
-use Rattle.alf_spec.specs.Faults.{tablesFault, fault}
+use Rattle.alf_spec.specs.declared.Filter.{Filter}
+use Rattle.alf_spec.specs.declared.Filter.the-variants.{Luma, Chroma, CrossComponent}
+use Rattle.alf_spec.specs.Input.{Layout, classes, Input, inputOf, classesInput}
+use Rattle.alf_spec.specs.Filters.{operationOf}
+use Rattle.alf_spec.specs.Geometry.{planeOf, lumaPlane, classPlane, planeLength}
+use Rattle.alf_spec.specs.Faults.{filterLengthsValid, fixedLengthsValid, lengthsValid, samplesValid, unless, layoutFault, tablesFault}
 use Rattle.alf_spec.proofs.Faults.{stops, goes}
-use Rattle.alf_validate_tables.specs.Tables.{filterTablesFault}
-use Rattle.alf_validate.specs.Filters.{filterFault}
+use Rattle.alf_validate_tables.specs.Tables.{mapLayout}
+use Rattle.alf_validate.specs.Filters.{ownLengthsValid}
 
 -- the class map's lengths: the code has the answers a to that of the plane, and b to that of the output
 pub classes-lengths : (l : Layout) (plane : List ℕ) (n : ℕ) {a b : Bool}
@@ -32,28 +33,22 @@ module _ (l : Layout) (plane : List ℕ) (n : ℕ) {r : Bool} (e : r ≡ samples
   unfolding tablesFault unless
   classes-pass q = goes 12 0 (e ∙ sym (and-true _)) q refl
 
--- a filter, whose code has the answers to its own tests and the number m that comes of them: what the filter is not given is empty, and
--- passes
-module _ (l : Layout) (sliceParams : List ℕ) (bank : List ℤ) (ctbParams ctbList : List ℕ) (n : ℕ) where
-  pub luma-fault : (fixedFilters : List ℤ) (fixedMap plane : List ℕ) {given output : Bool} {m : ℕ}
-      → given ≡ eqb (length plane) (planeLength (lumaPlane l)) → output ≡ eqb n (planeLength (lumaPlane l))
-      → let i = lumaInput l sliceParams bank ctbParams ctbList fixedFilters fixedMap plane n in
-      m ≡ filterFault i true (fixedLengthsValid i && (given && output)) → m ≡ fault luma i
-  unfolding filterFault fault componentValid lengthsValid filterTablesFault tablesFault samplesValid everyFrom
-  luma-fault fixedFilters fixedMap plane e f q = q ∙ rw (e, f)
+-- ---- the lengths that a filter asks for
 
-  pub chroma-fault : (component : ℕ) (plane : List ℕ) {valid given output : Bool} {m : ℕ}
-      → valid ≡ componentValid (chroma component) (l .picture)
-      → given ≡ eqb (length plane) (planeLength (chromaPlane l)) → output ≡ eqb n (planeLength (chromaPlane l))
-      → let i = chromaInput l sliceParams bank ctbParams ctbList plane n in
-      m ≡ filterFault i valid (given && output) → m ≡ fault (chroma component) i
-  unfolding filterFault fault lengthsValid filterTablesFault tablesFault fixedValid samplesValid everyFrom
-  chroma-fault component plane v e f q = q ∙ rw (v, e, f)
+-- its own and those of the tables that the filters share are all that its operation asks for
+pub own-lengths : (f : Filter) (i : Input) → (filterLengthsValid i && ownLengthsValid f i) ≡ lengthsValid (operationOf f) i
+unfolding ownLengthsValid lengthsValid
+own-lengths Luma i = refl
+own-lengths (Chroma component) i = refl
+own-lengths (CrossComponent component) i = refl
 
-  pub cross-fault : (component : ℕ) (lumaSamples chromaSamples : List ℕ) {valid givenLuma givenChroma output : Bool} {m : ℕ}
-      → valid ≡ componentValid (crossComponent component) (l .picture) → givenLuma ≡ eqb (length lumaSamples) (planeLength (lumaPlane l))
-      → givenChroma ≡ eqb (length chromaSamples) (planeLength (chromaPlane l)) → output ≡ eqb n (planeLength (chromaPlane l))
-      → let i = crossInput l sliceParams bank ctbParams ctbList lumaSamples chromaSamples n in
-      m ≡ filterFault i valid (givenLuma && (givenChroma && output)) → m ≡ fault (crossComponent component) i
-  unfolding filterFault fault lengthsValid filterTablesFault tablesFault fixedValid everyFrom
-  cross-fault component lumaSamples chromaSamples v e f g q = q ∙ rw (v, e, f, g)
+-- its own look at the picture, the planes, the fixed tables and the output
+module _ (l : Layout) (sliceParams : List ℕ) (bank : List ℤ) (ctbParams ctbList lumaSamples chromaSamples : List ℕ) (fixedFilters : List ℤ)
+    (fixedMap : List ℕ) (n : ℕ) where
+  pub own-same : (f : Filter)
+      → ownLengthsValid f (inputOf (mapLayout (l .picture) []) lumaSamples chromaSamples [] [] [] [] fixedFilters fixedMap n)
+      ≡ ownLengthsValid f (inputOf l lumaSamples chromaSamples sliceParams bank ctbParams ctbList fixedFilters fixedMap n)
+  unfolding ownLengthsValid fixedLengthsValid planeOf
+  own-same Luma = refl
+  own-same (Chroma component) = refl
+  own-same (CrossComponent component) = refl

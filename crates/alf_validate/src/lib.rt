@@ -5,7 +5,5 @@ mod judges;
 
 pub use causes::judge_causes;
 pub use isolation::judge_isolation;
-pub use judges::judge_chroma;
 pub use judges::judge_classes;
-pub use judges::judge_cross_component;
-pub use judges::judge_luma;
+pub use judges::judge_filter;

@@ -3,12 +3,15 @@ use mathlib.Core.Path.{_≡_, refl, sym, _∙_}
 use mathlib.Core.Bool.{Bool}
 use mathlib.Core.List.{[]}
 use lib.ListN.{length}
+use Rattle.alf_spec.specs.declared.Filter.{Filter}
+use Rattle.alf_spec.specs.declared.Filter.the-variants.{Luma, Chroma, CrossComponent}
 use Rattle.alf_spec.specs.Input.{Layout, Input, inputOf}
+use Rattle.alf_spec.specs.Filters.{operationOf}
 use Rattle.alf_spec.specs.Geometry.{planeOf, ctbTotal}
 use Rattle.alf_spec.specs.Boundary.{sliceOf}
 use Rattle.alf_spec.specs.Parameters.{ctbParam, sliceParam}
 use Rattle.alf_spec.specs.Faults.{sliceParamsValid, ctbRangesValid, ctbChromaZero, ctbParamsValidAt, parametersValid, bankValid, fixedValid}
-use Rattle.alf_spec.specs.Faults.{addressesValid}
+use Rattle.alf_spec.specs.Faults.{addressesValid, tablesFault}
 use Rattle.alf_validate_tables.specs.Tables.{parametersInput, tablesInput, filterTablesFault}
 
 module _ (i : Input) where
@@ -37,6 +40,13 @@ tablesOf i =
     (i .fixedFilters) (i .fixedMap)
     (i .luma) (i .chroma)
 
-pub tables-of : (i : Input) → filterTablesFault (tablesOf i) ≡ filterTablesFault i
+pub tables-of : (f : Filter) (i : Input) → filterTablesFault f (tablesOf i) ≡ filterTablesFault f i
 unfolding filterTablesFault bankValid fixedValid addressesValid planeOf
-tables-of i = rw (← parameters-same (tablesOf i), parameters-same i)
+tables-of f i = rw (← parameters-same (tablesOf i), parameters-same i)
+
+-- these are the causes of the filter's operation
+pub tables-fault : (f : Filter) (i : Input) → filterTablesFault f i ≡ tablesFault (operationOf f) i
+unfolding filterTablesFault tablesFault
+tables-fault Luma i = refl
+tables-fault (Chroma component) i = refl
+tables-fault (CrossComponent component) i = refl

@@ -7,8 +7,10 @@ use lib.Dec.{ltb}
 use lib.IntN.{ℤ}
 use lib.ListN.{length}
 use Rattle.alf_spec.specs.declared.Picture.{Picture}
-use Rattle.alf_spec.specs.Lists.{every}
-use Rattle.alf_spec.specs.Input.{Layout, layoutOf, Input, inputOf}
+use Rattle.alf_spec.specs.declared.Filter.{Filter}
+use Rattle.alf_spec.specs.Lists.{implies, every}
+use Rattle.alf_spec.specs.Input.{Layout, layoutOf, given, Input, inputOf}
+use Rattle.alf_spec.specs.Filters.{operationOf}
 use Rattle.alf_spec.specs.Geometry.{ctbTotal}
 use Rattle.alf_spec.specs.Faults.{bitDepthValid, parametersValid, bankValid, fixedValid, samplesValid, addressesValid, unless}
 
@@ -31,12 +33,13 @@ abbrev pub tablesInput : Picture → List ℕ → List ℕ → List ℤ → List
 tablesInput picture sliceMap sliceParams bank ctbParams ctbList fixedFilters fixedMap luma chroma =
     inputOf (mapLayout picture sliceMap) luma chroma sliceParams bank ctbParams ctbList fixedFilters fixedMap 0
 
--- causes 10 to 13 of the three filters: a table or plane that a filter is not given is empty, and passes
-unfoldable pub filterTablesFault : Input → ℕ
-filterTablesFault i =
+-- causes 10 to 13 of a filter: each is given the parameters, the bank and the list, so that fixed tables and planes alone depend on it
+unfoldable pub filterTablesFault : Filter → Input → ℕ
+filterTablesFault f i =
     unless (parametersValid i) 10
-    (unless (bankValid i && fixedValid i) 11
-    (unless (samplesValid (i .layout .picture) (i .luma) && samplesValid (i .layout .picture) (i .chroma)) 12
+    (unless (bankValid i && implies (given (operationOf f) .fixed) (fixedValid i)) 11
+    (unless (implies (given (operationOf f) .luma) (samplesValid (i .layout .picture) (i .luma))
+    && implies (given (operationOf f) .chroma) (samplesValid (i .layout .picture) (i .chroma))) 12
     (unless (addressesValid i) 13 0)))
 
 -- what an accepted layout and the operation's lengths say, for these causes

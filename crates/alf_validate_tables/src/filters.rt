@@ -4,11 +4,14 @@ ghost use mathlib.Core.Bool.{true, _&&_};
 ghost use mathlib.Core.List.{[]};
 ghost use Prim.Native.Nat.{_≤_};
 ghost use lib.Dec.{ltb};
-ghost use Rattle.alf_spec.specs.Lists.{every, everyFrom};
+ghost use Rattle.alf_spec.specs.Lists.{implies, every, everyFrom};
+ghost use Rattle.alf_spec.specs.Input.{given};
+ghost use Rattle.alf_spec.specs.Filters.{operationOf};
 ghost use Rattle.alf_spec.specs.Faults.{bitDepthValid, isClip, coeffValid, clipValid, bankNumberValid, bankValid, fixedValid};
 ghost use Rattle.alf_validate_tables.specs.Tables.{tablesInput};
 use crate::entries::coeff_valid;
 use crate::entries::coefficients_valid;
+use alf_spec::Filter;
 use alf_spec::Picture;
 use alf_validate_layout::entries::bytes_below;
 
@@ -64,8 +67,9 @@ fn fixed_valid(fixed_filters: &[i16], fixed_map: &[u8]) -> bool
     coefficients_valid(fixed_filters) & bytes_below(fixed_map, 64)
 }
 
-// Whether the filters are valid: the bank, and the fixed tables, which are empty where they are not given.
+// Whether what a filter is given of filters is valid: the bank, and for luma the fixed tables.
 pub fn filters_valid(
+    filter: Filter,
     picture: Picture,
     bank: &[i16],
     fixed_filters: &[i16],
@@ -74,7 +78,12 @@ pub fn filters_valid(
     requires { ⌜ bitDepthValid picture ≡ true ⌝ }
     ensures { λ r. ⌜ (
         let i = tablesInput picture [] [] (now (bank .entry)) [] [] (now («fixed_filters» .entry)) (now («fixed_map» .entry)) [] [] in
-        r ≡ (bankValid i && fixedValid i)) ⌝ }
+        r ≡ (bankValid i && implies (given (operationOf filter) .fixed) (fixedValid i))) ⌝ }
 {
-    bank_valid(picture.bit_depth, bank) & fixed_valid(fixed_filters, fixed_map)
+    let bank_valid = bank_valid(picture.bit_depth, bank);
+    match filter {
+        Filter::Luma => bank_valid & fixed_valid(fixed_filters, fixed_map),
+        Filter::Chroma(_) => bank_valid,
+        Filter::CrossComponent(_) => bank_valid,
+    }
 }

@@ -2,10 +2,13 @@
 ghost use mathlib.Core.Path.{_≡_};
 ghost use mathlib.Core.Bool.{true, _&&_};
 ghost use mathlib.Core.List.{[]};
-ghost use Rattle.alf_spec.specs.Input.{Layout, inputOf};
+ghost use Rattle.alf_spec.specs.Lists.{implies};
+ghost use Rattle.alf_spec.specs.Input.{Layout, given, inputOf};
+ghost use Rattle.alf_spec.specs.Filters.{operationOf};
 ghost use Rattle.alf_spec.specs.Geometry.{ctbTotal};
 ghost use Rattle.alf_spec.specs.Faults.{bitDepthValid, samplesValid, addressesValid};
 use crate::entries::samples_below;
+use alf_spec::Filter;
 use alf_spec::Picture;
 
 // Whether each sample of a plane is below 1 << BitDepth.
@@ -16,12 +19,17 @@ pub fn samples_valid(picture: Picture, plane: &[u16]) -> bool
     samples_below(plane, 1u16 << picture.bit_depth)
 }
 
-// Whether the samples of both planes are valid; a plane that is not given is empty.
-pub fn planes_valid(picture: Picture, luma: &[u16], chroma: &[u16]) -> bool
+// Whether the samples of the planes that a filter is given are valid.
+pub fn planes_valid(filter: Filter, picture: Picture, luma: &[u16], chroma: &[u16]) -> bool
     requires { ⌜ bitDepthValid picture ≡ true ⌝ }
-    ensures { λ r. ⌜ r ≡ (samplesValid picture (now (luma .entry)) && samplesValid picture (now (chroma .entry))) ⌝ }
+    ensures { λ r. ⌜ r ≡ (implies (given (operationOf filter) .luma) (samplesValid picture (now (luma .entry)))
+        && implies (given (operationOf filter) .chroma) (samplesValid picture (now (chroma .entry)))) ⌝ }
 {
-    samples_valid(picture, luma) & samples_valid(picture, chroma)
+    match filter {
+        Filter::Luma => samples_valid(picture, luma),
+        Filter::Chroma(_) => samples_valid(picture, chroma),
+        Filter::CrossComponent(_) => samples_valid(picture, luma) & samples_valid(picture, chroma),
+    }
 }
 
 // Whether each address of the list is below the number of CTBs. The loop goes on past one that fails, so that it can run as vector code.

@@ -1,7 +1,7 @@
 -- `alf_ctb::tables::is_on` meets its contract. Assumes nothing.
 use mathlib.Core.Path.{sym, ap, subst, _∙_}
 use borrow.Author.Needs.{needs}
-use Rattle.alf_ctb.specs.declared.Filter.{Filter}
+use Rattle.alf_spec.specs.declared.Filter.{Filter}
 use Rattle.alf_ctb.specs.Filters.{isOn}
 use Rattle.alf_ctb.specs.Tables.{ComponentOf}
 use Rattle.alf_ctb.proofs.tables.is_on.Statement.{statement}

@@ -2,7 +2,7 @@
 use mathlib.Core.Path.{subst}
 use native.Mathlib.Omega.{arith}
 use borrow.Author.Needs.{needs}
-use Rattle.alf_ctb.specs.declared.Filter.{Filter}
+use Rattle.alf_spec.specs.declared.Filter.{Filter}
 use Rattle.alf_ctb.specs.Tables.{ComponentOf, FixedGiven, Switched}
 use Rattle.alf_ctb.proofs.TableFilters.{luma-loaded, chroma-loaded, cross-loaded}
 use Rattle.alf_ctb.proofs.tables.load.Statement.{statement}

@@ -16,7 +16,8 @@ use Rattle.alf_pieces.proofs.CtbRegions.{ctbs-none, ctbs-next}
 use Rattle.alf_lists.proofs.Painted.{Paint}
 use Rattle.alf_taps.specs.Spread.{TapNumbers}
 use Rattle.alf_sides.specs.Planned.{SidesPlanned}
-use Rattle.alf_ctb.specs.Filters.{operationOf, sampleOf}
+use Rattle.alf_spec.specs.Filters.{operationOf}
+use Rattle.alf_ctb.specs.Filters.{sampleOf}
 use Rattle.alf_filter.specs.FilterTables.{FilterTables, tablesOf, TablesIn}
 use Rattle.alf_filter.specs.FilteredCtbs.{isMarked}
 use Rattle.alf_filter.proofs.AcceptedFilters.{plane-size, same-picture}

@@ -2,7 +2,7 @@
 use mathlib.Core.Path.{_≡_, sym, ap, _∙_}
 use borrow.Author.Needs.{needs}
 use lib.ListN.{length}
-use Rattle.alf_ctb.specs.declared.Filter.{Filter}
+use Rattle.alf_spec.specs.declared.Filter.{Filter}
 use Rattle.alf_ctb.specs.Filters.{planeFiltered}
 use Rattle.alf_filter.proofs.plane.copy_input.Statement.{statement}
 use Rattle.alf_filter.proofs.plane.copy_input.Tie as tie

@@ -10,7 +10,7 @@ use Rattle.alf_spec.proofs.Accepted.{AcceptedLayout}
 use Rattle.alf_math.proofs.Grids.{few-ctbs, few-in-layout}
 use Rattle.alf_boundary.proofs.Tables.{tables-of}
 use Rattle.alf_params.proofs.AcceptedTables.{accepted-tables}
-use Rattle.alf_ctb.specs.Filters.{operationOf}
+use Rattle.alf_spec.specs.Filters.{operationOf}
 use Rattle.alf_filter.proofs.AcceptedFilters.{filters-given, layout-accepted, output-size, component-accepted, tables-accepted}
 use Rattle.alf_filter.proofs.AcceptedFilters.{plane-length, listed-below}
 use Rattle.alf_filter.proofs.FilteredCtbs.{marks-on, marked-result}

@@ -3,7 +3,9 @@ use mathlib.Core.Path.{_≡_, refl}
 use mathlib.Core.Bool.{_&&_}
 use Prim.Native.Nat.{ℕ}
 use borrow.Author.Needs.{needs}
-use Rattle.alf_spec.specs.Input.{Input}
+use Rattle.alf_spec.specs.Lists.{implies}
+use Rattle.alf_spec.specs.Input.{given, Input}
+use Rattle.alf_spec.specs.Filters.{operationOf}
 use Rattle.alf_spec.specs.Faults.{parametersValid, bankValid, fixedValid, samplesValid, unless}
 use Rattle.alf_spec.proofs.Faults.{stops, goes}
 use Rattle.alf_validate_tables.specs.Tables.{tablesInput, filterTablesFault}
@@ -23,8 +25,10 @@ input s =
 
 -- where three tests have passed, what comes after them decides
 three-pass : (three : tie.Else3) {m rest : ℕ} → m ≡ rest → let i = input (start three) in
-    m ≡ unless (parametersValid i) 10 (unless (bankValid i && fixedValid i) 11
-    (unless (samplesValid (i .layout .picture) (i .luma) && samplesValid (i .layout .picture) (i .chroma)) 12 rest))
+    let op = operationOf (start three .args .filter) in
+    m ≡ unless (parametersValid i) 10 (unless (bankValid i && implies (given op .fixed) (fixedValid i)) 11
+    (unless (implies (given op .luma) (samplesValid (i .layout .picture) (i .luma))
+    && implies (given op .chroma) (samplesValid (i .layout .picture) (i .chroma))) 12 rest))
 unfolding bankValid fixedValid
 three-pass three e =
     let two = three .before .before in
