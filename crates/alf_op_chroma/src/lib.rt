@@ -3,11 +3,10 @@ ghost use lib.ListN.{length};
 ghost use Rattle.alf_spec.specs.Input.{chroma as chromaOf, layoutOf, chromaInput};
 ghost use Rattle.alf_spec.specs.Answers.{number};
 ghost use Rattle.alf_spec.specs.Runs.{Ran};
-use alf_filter::filter_plane;
+use alf_op_filter::filter_picture;
 use alf_spec::Answer;
 use alf_spec::Filter;
 use alf_spec::Picture;
-use alf_validate::judge_chroma;
 
 // The lowest fault of the input, and the output stays as it was; or the output is the plane of the component, 0 (Cb) or 1 (Cr), with each
 // listed CTB whose flag is on filtered.
@@ -36,27 +35,7 @@ pub fn chroma(
         (length (now (output .entry))) in
         Ran (chromaOf component) input (number r) (now (output .entry)) (now (output .exit))) ⌝ }
 {
-    let answer = judge_chroma(
-        picture,
-        virtual_columns,
-        virtual_rows,
-        tile_columns,
-        tile_rows,
-        slice_map,
-        subpic_map,
-        subpic_across,
-        component,
-        slice_params,
-        bank,
-        ctb_params,
-        ctb_list,
-        chroma,
-        output.len(),
-    );
-    let Answer::Accepted = answer else {
-        return answer;
-    };
-    filter_plane(
+    filter_picture(
         Filter::Chroma(component),
         picture,
         virtual_columns,
@@ -75,6 +54,5 @@ pub fn chroma(
         &[],
         chroma,
         output,
-    );
-    Answer::Accepted
+    )
 }

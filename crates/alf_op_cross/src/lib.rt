@@ -3,11 +3,10 @@ ghost use lib.ListN.{length};
 ghost use Rattle.alf_spec.specs.Input.{crossComponent, layoutOf, crossInput};
 ghost use Rattle.alf_spec.specs.Answers.{number};
 ghost use Rattle.alf_spec.specs.Runs.{Ran};
-use alf_filter::filter_plane;
+use alf_op_filter::filter_picture;
 use alf_spec::Answer;
 use alf_spec::Filter;
 use alf_spec::Picture;
-use alf_validate::judge_cross_component;
 
 // The lowest fault of the input, and the output stays as it was; or the output is the plane of the component, which is filtered already,
 // with each listed CTB whose index is on corrected from luma, which is not filtered.
@@ -37,28 +36,7 @@ pub fn cross_component(
         (length (now (output .entry))) in
         Ran (crossComponent component) input (number r) (now (output .entry)) (now (output .exit))) ⌝ }
 {
-    let answer = judge_cross_component(
-        picture,
-        virtual_columns,
-        virtual_rows,
-        tile_columns,
-        tile_rows,
-        slice_map,
-        subpic_map,
-        subpic_across,
-        component,
-        slice_params,
-        bank,
-        ctb_params,
-        ctb_list,
-        luma,
-        chroma,
-        output.len(),
-    );
-    let Answer::Accepted = answer else {
-        return answer;
-    };
-    filter_plane(
+    filter_picture(
         Filter::CrossComponent(component),
         picture,
         virtual_columns,
@@ -77,6 +55,5 @@ pub fn cross_component(
         luma,
         chroma,
         output,
-    );
-    Answer::Accepted
+    )
 }

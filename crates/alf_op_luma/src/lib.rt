@@ -3,11 +3,10 @@ ghost use lib.ListN.{length};
 ghost use Rattle.alf_spec.specs.Input.{luma as lumaOf, layoutOf, lumaInput};
 ghost use Rattle.alf_spec.specs.Answers.{number};
 ghost use Rattle.alf_spec.specs.Runs.{Ran};
-use alf_filter::filter_plane;
+use alf_op_filter::filter_picture;
 use alf_spec::Answer;
 use alf_spec::Filter;
 use alf_spec::Picture;
-use alf_validate::judge_luma;
 
 // The lowest fault of the input, and the output stays as it was; or the output is the luma plane with each listed CTB whose flag is on
 // filtered. The classes are worked out here.
@@ -37,28 +36,7 @@ pub fn luma(
         (length (now (output .entry))) in
         Ran lumaOf input (number r) (now (output .entry)) (now (output .exit))) ⌝ }
 {
-    let answer = judge_luma(
-        picture,
-        virtual_columns,
-        virtual_rows,
-        tile_columns,
-        tile_rows,
-        slice_map,
-        subpic_map,
-        subpic_across,
-        slice_params,
-        bank,
-        ctb_params,
-        ctb_list,
-        fixed_filters,
-        fixed_map,
-        luma,
-        output.len(),
-    );
-    let Answer::Accepted = answer else {
-        return answer;
-    };
-    filter_plane(
+    filter_picture(
         Filter::Luma,
         picture,
         virtual_columns,
@@ -77,6 +55,5 @@ pub fn luma(
         luma,
         &[],
         output,
-    );
-    Answer::Accepted
+    )
 }

@@ -3,9 +3,10 @@ use alf::number;
 use alf_print::print;
 use alf_print::print_number;
 use alf_spec::Answer;
+use alf_spec::Filter;
 use alf_spec::Picture;
+use alf_validate::judge_filter;
 use alf_validate::judge_isolation;
-use alf_validate::judge_luma;
 use example_pictures::layout::plain;
 
 // Whether cause n is one of those to break.
@@ -61,7 +62,8 @@ fn judged(first: u32, last: u32) -> Answer {
     let fixed_map = [0u8; 400];
     let mut luma = [0u16; 1600];
     luma[1599] = pick(12, first, last, 1, 0) as u16 * 255 + 1;
-    judge_luma(
+    judge_filter(
+        Filter::Luma,
         picture(first, last),
         &columns,
         &rows,
@@ -77,6 +79,7 @@ fn judged(first: u32, last: u32) -> Answer {
         &fixed_filters,
         &fixed_map,
         &luma,
+        &[],
         1600,
     )
 }

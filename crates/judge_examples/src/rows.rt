@@ -4,10 +4,10 @@ use alf::number;
 use alf_print::print;
 use alf_print::print_number;
 use alf_spec::Answer;
+use alf_spec::Filter;
 use alf_spec::Picture;
-use alf_validate::judge_chroma;
+use alf_validate::judge_filter;
 use alf_validate::judge_isolation;
-use alf_validate::judge_luma;
 use example_pictures::layout::plain;
 
 fn show_answer(text: &[u8], answer: Answer) {
@@ -87,7 +87,8 @@ fn show_luma(text: &[u8], at: usize, parameter: u8, coefficient: i16, entry: u8)
     fixed_map[399] = entry;
     show_answer(
         text,
-        judge_luma(
+        judge_filter(
+            Filter::Luma,
             plain(40, 40, 5),
             &[],
             &[],
@@ -103,6 +104,7 @@ fn show_luma(text: &[u8], at: usize, parameter: u8, coefficient: i16, entry: u8)
             &fixed_filters,
             &fixed_map,
             &[0; 1600],
+            &[],
             1600,
         ),
     );
@@ -114,7 +116,8 @@ fn show_chroma(text: &[u8], sample: u16) {
     chroma[15] = sample;
     show_answer(
         text,
-        judge_chroma(
+        judge_filter(
+            Filter::Chroma(0),
             Picture {
                 chroma_format: 1,
                 ..plain(8, 8, 5)
@@ -126,10 +129,12 @@ fn show_chroma(text: &[u8], sample: u16) {
             &[0; 1],
             &[0; 1],
             &[1; 64],
-            0,
             &[0; 11],
             &[0; 6016],
             &[0; 8],
+            &[],
+            &[],
+            &[],
             &[],
             &chroma,
             16,

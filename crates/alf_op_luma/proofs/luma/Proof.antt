@@ -1,32 +1,10 @@
--- `alf_op_luma::luma` meets its contract. Assumes nothing.
+-- `alf_op_luma::luma` meets its contract: it is `filter_picture` of its filter. Assumes nothing.
 use borrow.Author.Needs.{needs}
-use Rattle.alf_spec.proofs.Answers.{accepts, stays, written}
 use Rattle.alf_op_luma.proofs.luma.Statement.{statement}
 use Rattle.alf_op_luma.proofs.luma.Tie as tie
-
--- the judge rejects: its answer is handed on, and the output stays
-rejected : tie.Need-returns
-rejected c =
-    let judged = c .before .before .judge-luma in
-    (judged .ensures, stays (judged .result) (judged .ensures) (c .enum-told2 .given .1) _ .1)
-
--- the judge accepts, which is what the work asks
-asked : tie.Need-filter-plane-requires
-asked c κs =
-    let judged : tie.After-judge-luma = search needs in
-    let told : tie.After-enum-told = search needs in
-    accepts (judged .judge-luma .result) (judged .judge-luma .ensures) (told .enum-told .given .1)
-
--- the work is done
-worked : tie.Need-returns-2
-worked c =
-    let judged : tie.After-judge-luma = search needs in
-    let told : tie.After-enum-told = search needs in
-    let done = c .before .before .filter-plane in
-    written (judged .judge-luma .result) (judged .judge-luma .ensures) (told .enum-told .given .1) _ (done .ensures)
 
 pub luma-spec : {M : Type 1} → statement M
 luma-spec =
     tie.close
-    (tie.spec (λ c κs. search needs) (λ c. search needs) (λ c. search needs) rejected (λ c. search needs) asked (λ c. search needs)
-    worked)
+    (tie.spec (λ c. search needs) (λ c κs. search needs) (λ c. search needs)
+    (λ c. let called : tie.After-filter-picture = search needs in called .filter-picture .ensures))
