@@ -27,11 +27,6 @@ open-told c =
 pub isolated-spec : {M : Type 1} → statement M
 isolated-spec =
     tie.close
-    (tie.spec
-    (λ c κs. search needs)
-    (λ c. search needs)
-    rejected
-    (λ c. search needs)
+    (tie.spec (λ c κs. search needs) (λ c. search needs) rejected (λ c. search needs)
     (λ c κs. let judged = c .before .before .judge-isolation in accepts (judged .result) (judged .ensures) (c .enum-told .given .1))
-    isolated-told
-    open-told)
+    isolated-told open-told)

@@ -70,8 +70,4 @@ add-tap-spec =
     (λ c. search needs) (λ c. search needs) (λ c. search needs) (λ c. search needs) (λ c. search needs) (λ c. search needs)
     (λ c. search needs)
     (λ c. search needs) (λ c. search needs) (λ c. search needs) (λ c. search needs) (λ c. search needs) (λ c. search needs)
-    (λ c. search needs)
-    (λ c. search needs)
-    tap-requires
-    add-result
-    returns)
+    (λ c. search needs) (λ c. search needs) tap-requires add-result returns)

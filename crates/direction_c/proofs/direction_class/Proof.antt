@@ -21,8 +21,7 @@ number-small c = rw (c .class-of-sums .ensures) (class-small _ _ _)
 pub direction-class-spec : {M : Type 1} → statement M
 direction-class-spec =
     tie.close
-    (tie.spec
-    (λ c κs. search needs)
+    (tie.spec (λ c κs. search needs)
     (λ c κs. in-range _ _ _ _ _ _ (tested (c .before) true (c .if1 .taken)))
     (λ c. search (needs, number-small (c .before)))
     (λ c. search (needs, number-small (c .before .before)))

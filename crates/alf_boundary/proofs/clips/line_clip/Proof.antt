@@ -19,10 +19,7 @@ line-clip-spec =
     (λ c κs. omega (arith, start-le (c .pre)))
     (λ c. search needs)
     (λ c. omega (arith, low (c .before)))
-    (λ c. search needs)
-    (λ c κs. search needs)
-    (λ c. search needs)
-    (λ c. let start : tie.After-ctb-start = search needs in low start)
+    (λ c. search needs) (λ c κs. search needs) (λ c. search needs) (λ c. let start : tie.After-ctb-start = search needs in low start)
     (λ c κs. search needs)
     (λ c boundaries ratio.
     let test = c .before .before in

@@ -15,8 +15,7 @@ pub line-rule-spec : {M : Type 1} → statement M
 unfolding lineRule
 line-rule-spec =
     tie.close
-    (tie.spec
-    (λ c. search needs)
+    (tie.spec (λ c. search needs)
     (λ c. omega (arith, low c))
     (λ c. omega (arith, low c))
     (λ c a e f. rw (e, f)))

@@ -23,8 +23,7 @@ side-clip-spec =
     (λ c. let asked = c .before .before in omega (arith, low (asked .before .before)))
     (λ c κs. search needs)
     (λ c. low (c .before))
-    (λ c κs. search needs)
-    (λ c κs. search needs)
+    (λ c κs. search needs) (λ c κs. search needs)
     (λ c boundaries ratio.
     let asked = c .before .before in
     let test = asked .before .before in

@@ -42,12 +42,9 @@ loop-again c =
 pub chroma-row-spec : {M : Type 1} → statement M
 chroma-row-spec =
     tie.close
-    (tie.spec
-    Inv-loop
-    μ-loop
+    (tie.spec Inv-loop μ-loop
     (λ c. (omega arith, paint-none (run-none _)))
     chroma-at-requires
     (λ c. omega arith) (λ c. omega arith) (λ c. omega arith) (λ c. omega arith) (λ c. omega arith)
-    loop-again
-    (λ c. search needs)
+    loop-again (λ c. search needs)
     (λ c. cc (le-antisymm (c .before .loop .inv .0) (c .loop-test .left), paint-is (c .before .loop .inv .1))))

@@ -75,8 +75,7 @@ filter-piece-spec =
     tie.close
     (tie.spec
     (λ c κs. search needs) (λ c. search needs)
-    cast-copy-piece
-    copy-piece-requires
+    cast-copy-piece copy-piece-requires
     (λ c κs. search needs) (λ c κs. search needs)
     filter-rows-requires
     (λ c. search needs) (λ c. search needs) (λ c. search needs)

@@ -25,9 +25,4 @@ returns c =
 pub filter-row-spec : {M : Type 1} → statement M
 filter-row-spec =
     tie.close
-    (tie.spec
-    (λ c. search needs)
-    (λ c κs. omega arith)
-    chroma-row-requires
-    (λ c. search needs)
-    returns)
+    (tie.spec (λ c. search needs) (λ c κs. omega arith) chroma-row-requires (λ c. search needs) returns)

@@ -85,17 +85,11 @@ returns c =
 pub filter-rows-spec : {M : Type 1} → statement M
 filter-rows-spec =
     tie.close
-    (tie.spec
-    Inv-loop
-    μ-loop
+    (tie.spec Inv-loop μ-loop
     (λ c κs. omega (arith, c .before .before .pre .across .filled))
     (λ c. search needs) (λ c κs. search needs) (λ c. search needs) (λ c κs. search needs)
-    loop-holds
-    rows-at-requires
-    plane-index-requires
+    loop-holds rows-at-requires plane-index-requires
     (λ c. search needs) (λ c. search needs)
     filter-row-requires
     (λ c. search needs) (λ c. search needs)
-    loop-again
-    (λ c. search needs)
-    returns)
+    loop-again (λ c. search needs) returns)

@@ -60,15 +60,11 @@ loop-again c =
 pub spread-spec : {M : Type 1} → statement M
 spread-spec =
     tie.close
-    (tie.spec
-    Inv-loop
-    μ-loop
-    (λ c. (omega arith, refl, spread-none, c .pre .4))
+    (tie.spec Inv-loop μ-loop (λ c. (omega arith, refl, spread-none, c .pre .4))
     (λ c. omega arith) (λ c. omega arith) (λ c. omega arith)
     fill-requires
     (λ c. omega arith) (λ c. omega arith) (λ c. omega arith) (λ c. omega arith) (λ c. omega arith)
     fill-requires-2
     (λ c. omega arith) (λ c. omega arith)
-    loop-again
-    (λ c. c .before .loop .inv .1)
+    loop-again (λ c. c .before .loop .inv .1)
     (λ c. let l = c .before .loop in (rw (le-antisymm (l .inv .0) (c .loop-test .left)) at (l .inv .2), l .inv .3)))

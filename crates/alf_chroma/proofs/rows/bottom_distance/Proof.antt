@@ -18,10 +18,8 @@ above s =
 pub bottom-distance-spec : {M : Type 1} → statement M
 bottom-distance-spec =
     tie.close
-    (tie.spec
-    (λ c. search needs)
+    (tie.spec (λ c. search needs)
     (λ c. omega (arith, small c))
-    (λ c. search needs)
-    (λ c. search needs)
+    (λ c. search needs) (λ c. search needs)
     (λ c. omega (arith, above c))
     (λ c. search needs))

@@ -26,6 +26,4 @@ rows-at-spec =
     (tie.spec
     (λ c. omega (arith, small c))
     (λ c κs. omega (arith, small c))
-    (λ c κs. search needs)
-    (λ c κs. search needs)
-    returns)
+    (λ c κs. search needs) (λ c κs. search needs) returns)

@@ -104,10 +104,7 @@ returns c =
 pub class-ctb-spec : {M : Type 1} → statement M
 class-ctb-spec =
     tie.close
-    (tie.spec
-    Inv-loop
-    μ-loop
-    (λ c κs. search needs)
+    (tie.spec Inv-loop μ-loop (λ c κs. search needs)
     (λ c κs. walk-limits (along (start c)) (c .row-axis .ensures))
     (λ c κs. let k = c .before in walk-limits (along (start k)) (k .row-axis .ensures) .1)
     loop-holds
@@ -117,8 +114,4 @@ class-ctb-spec =
     (c .loop-test .taken))
     class-strip-requires
     (λ c. let f = found (called c) in turn-less (turned f) (f .before .loop-test .taken))
-    loop-again
-    (λ c. search needs)
-    (λ c. search needs)
-    (λ c. search needs)
-    returns)
+    loop-again (λ c. search needs) (λ c. search needs) (λ c. search needs) returns)

@@ -59,14 +59,5 @@ returns c =
 pub class-piece-spec : {M : Type 1} → statement M
 class-piece-spec =
     tie.close
-    (tie.spec
-    (λ c. search needs)
-    copy-piece-requires
-    (λ c. search needs)
-    (λ c. search needs)
-    (λ c. search needs)
-    piece-classes-requires
-    (λ c. search needs)
-    (λ c. search needs)
-    (λ c. search needs)
-    returns)
+    (tie.spec (λ c. search needs) copy-piece-requires (λ c. search needs) (λ c. search needs) (λ c. search needs) piece-classes-requires
+    (λ c. search needs) (λ c. search needs) (λ c. search needs) returns)

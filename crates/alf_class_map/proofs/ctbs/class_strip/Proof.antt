@@ -127,10 +127,7 @@ returns c =
 pub class-strip-spec : {M : Type 1} → statement M
 class-strip-spec =
     tie.close
-    (tie.spec
-    Inv-loop
-    μ-loop
-    (λ c κs. search needs)
+    (tie.spec Inv-loop μ-loop (λ c κs. search needs)
     (λ c κs. walk-limits (along c) (axis-is c))
     (λ c κs. let k = c .before in walk-limits (along k) (axis-is k) .1)
     loop-holds
@@ -140,8 +137,4 @@ class-strip-spec =
     (c .loop-test .taken))
     class-piece-requires
     (λ c. let f = found (called c) in turn-less (turned f) (f .before .loop-test .taken))
-    loop-again
-    (λ c. search needs)
-    (λ c. search needs)
-    (λ c. search needs)
-    returns)
+    loop-again (λ c. search needs) (λ c. search needs) (λ c. search needs) returns)

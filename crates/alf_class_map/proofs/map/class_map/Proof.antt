@@ -131,23 +131,8 @@ returns c =
 pub class-map-spec : {M : Type 1} → statement M
 class-map-spec =
     tie.close
-    (tie.spec
-    Inv-loop
-    μ-loop
-    grid-requires
+    (tie.spec Inv-loop μ-loop grid-requires
     (λ c. omega (arith, few-ctbs (c .before .grid .ensures)))
-    (λ c. search needs)
-    plan-sides-requires
-    loop-holds
-    (λ c. search needs)
-    (λ c. search needs)
-    (λ c. search needs)
-    sides-at-requires
-    (λ c. search needs)
-    (λ c. search needs)
-    class-ctb-requires
-    (λ c. search needs)
-    (λ c. search needs)
-    loop-again
-    (λ c. search needs)
+    (λ c. search needs) plan-sides-requires loop-holds (λ c. search needs) (λ c. search needs) (λ c. search needs) sides-at-requires
+    (λ c. search needs) (λ c. search needs) class-ctb-requires (λ c. search needs) (λ c. search needs) loop-again (λ c. search needs)
     returns)

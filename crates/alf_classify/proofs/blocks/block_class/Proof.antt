@@ -28,12 +28,7 @@ returns c =
 pub block-class-spec : {M : Type 1} → statement M
 block-class-spec =
     tie.close
-    (tie.spec
-    (λ c κs. search needs)
-    (λ c κs. search needs)
-    (λ c κs. search needs)
-    (λ c κs. search needs)
-    (λ c κs. search needs)
+    (tie.spec (λ c κs. search needs) (λ c κs. search needs) (λ c κs. search needs) (λ c κs. search needs) (λ c κs. search needs)
     (λ c. search (needs, number-small (c .before)))
     (λ c. search (needs, number-small (c .before .before)))
     (λ c. search (needs, number-small (c .before .before)))

@@ -52,31 +52,23 @@ in-sums count n few e = omega arith
 pub class-row-spec : {M : Type 1} → statement M
 class-row-spec =
     tie.close
-    (tie.spec
-    (λ c. search needs)
-    (λ c. search needs)
-    (λ c. refl)
+    (tie.spec (λ c. search needs) (λ c. search needs) (λ c. refl)
     (λ c κs.
     let s : tie.Start = search needs in
     let p = s .pre in
     let f = row-fits _ _ _ _ (p .0) (p .8) in
     (p .2, p .3, p .1, f .0, f .1, p .9 .0))
-    (λ c. search needs)
-    (λ c. refl)
+    (λ c. search needs) (λ c. refl)
     (λ c κs.
     let p = start (search needs) .pre in
     let f = row-fits _ _ _ _ (p .0) (p .8) in
     (p .2, p .3, p .1, f .0, f .2, p .9 .1))
-    (λ c. search needs)
-    (λ c. search needs)
-    (λ c. refl)
+    (λ c. search needs) (λ c. search needs) (λ c. refl)
     (λ c κs.
     let p = start (search needs) .pre in
     let f = row-fits _ _ _ _ (p .0) (p .8) in
     (p .2, p .3, p .1, f .0, f .3, p .9 .2))
-    (λ c. search needs)
-    (λ c. search needs)
-    (λ c. refl)
+    (λ c. search needs) (λ c. search needs) (λ c. refl)
     (λ c κs.
     let p = start (search needs) .pre in
     let f = row-fits _ _ _ _ (p .0) (p .8) in
@@ -100,5 +92,4 @@ class-row-spec =
       p .6,
       p .7,
     ))
-    (λ c. search needs)
-    returns)
+    (λ c. search needs) returns)

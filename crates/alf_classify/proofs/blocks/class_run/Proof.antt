@@ -35,16 +35,8 @@ loop-again c =
 pub class-run-spec : {M : Type 1} → statement M
 class-run-spec =
     tie.close
-    (tie.spec
-    Inv-loop
-    μ-loop
+    (tie.spec Inv-loop μ-loop
     (λ c. (omega arith, paint-none (run-none _)))
-    (λ c. omega arith)
-    (λ c κs. omega arith)
-    (λ c. omega arith)
-    (λ c. omega arith)
-    (λ c. omega arith)
-    (λ c. omega arith)
-    loop-again
+    (λ c. omega arith) (λ c κs. omega arith) (λ c. omega arith) (λ c. omega arith) (λ c. omega arith) (λ c. omega arith) loop-again
     (λ c. search needs)
     (λ c. cc (le-antisymm (c .before .loop .inv .0) (c .loop-test .left), paint-is (c .before .loop .inv .1))))

@@ -11,8 +11,7 @@ few s = mul-le-mul (s .pre .2) (s .pre .0)
 pub map-index-spec : {M : Type 1} → statement M
 map-index-spec =
     tie.close
-    (tie.spec
-    (λ c. search needs)
+    (tie.spec (λ c. search needs)
     (λ c. search (needs, few c))
     (λ c. search (needs, few c))
     (λ c. search needs))

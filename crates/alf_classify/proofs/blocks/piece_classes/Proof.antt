@@ -152,18 +152,13 @@ returns c =
 pub piece-classes-spec : {M : Type 1} → statement M
 piece-classes-spec =
     tie.close
-    (tie.spec
-    Inv-loop
-    μ-loop
+    (tie.spec Inv-loop μ-loop
     (λ c κs. omega (arith, c .before .before .before .pre .1 .numbers .filled))
     (λ c. let s : tie.Start Inv-loop μ-loop = search needs in search (needs, c .extent .ensures, blocks (s .pre .1) .few))
     (λ c κs. let s : tie.Start Inv-loop μ-loop = search needs in omega (arith, s .pre .2 .numbers .filled))
     (λ c. let s : tie.Start Inv-loop μ-loop = search needs in search (needs, c .extent2 .ensures, blocks (s .pre .2) .few))
     (λ c. search (needs, sizes c))
-    all-differences-requires
-    (λ c. search needs)
-    (λ c. search needs)
-    loop-holds
+    all-differences-requires (λ c. search needs) (λ c. search needs) loop-holds
     (λ c. search (needs, row-inside c))
     (λ c. search (needs, row-inside (c .before)))
     (λ c κs. let g = begin (c .before) .pre .0 .picture .grid in omega (arith, g .ctbLow, g .ctbHigh, row-inside (c .before)))
@@ -175,7 +170,4 @@ piece-classes-spec =
     class-row-requires
     (λ c. let turn : tie.In-loop Inv-loop μ-loop = search needs in search (needs, row-inside turn))
     (λ c. let turn : tie.In-loop Inv-loop μ-loop = search needs in omega (arith, turn .loop-test .taken))
-    loop-again
-    (λ c. search needs)
-    (λ c. search needs)
-    returns)
+    loop-again (λ c. search needs) (λ c. search needs) returns)

@@ -15,8 +15,4 @@ returns c =
 pub row-window-spec : {M : Type 1} → statement M
 row-window-spec =
     tie.close
-    (tie.spec
-    (λ c κs. search needs)
-    (λ c. search needs)
-    (λ c κs. search needs)
-    returns)
+    (tie.spec (λ c κs. search needs) (λ c. search needs) (λ c κs. search needs) returns)

@@ -12,10 +12,7 @@ few s = let low : 4 * s .args .row + s .args .first ≤ 131 = omega arith in mul
 pub window-index-spec : {M : Type 1} → statement M
 window-index-spec =
     tie.close
-    (tie.spec
-    (λ c. search needs)
-    (λ c. search needs)
-    (λ c. search needs)
+    (tie.spec (λ c. search needs) (λ c. search needs) (λ c. search needs)
     (λ c. search (needs, few c))
     (λ c. search (needs, few c))
     (λ c. search needs))

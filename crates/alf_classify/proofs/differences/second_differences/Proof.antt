@@ -38,20 +38,8 @@ loop-again c =
 pub second-differences-spec : {M : Type 1} → statement M
 second-differences-spec =
     tie.close
-    (tie.spec
-    Inv-loop
-    μ-loop
-    (λ c. omega arith)
-    (λ c. omega arith)
-    (λ c. omega arith)
+    (tie.spec Inv-loop μ-loop (λ c. omega arith) (λ c. omega arith) (λ c. omega arith)
     (λ c. (omega arith, paint-none (run-none _)))
-    (λ c. omega arith)
-    difference-requires
-    (λ c. omega arith)
-    (λ c. omega arith)
-    (λ c. omega arith)
-    (λ c. omega arith)
-    (λ c. omega arith)
-    loop-again
-    (λ c. search needs)
+    (λ c. omega arith) difference-requires (λ c. omega arith) (λ c. omega arith) (λ c. omega arith) (λ c. omega arith) (λ c. omega arith)
+    loop-again (λ c. search needs)
     (λ c. cc (le-antisymm (c .before .loop .inv .0) (c .loop-test .left), paint-is (c .before .loop .inv .1))))

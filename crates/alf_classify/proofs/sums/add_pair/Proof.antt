@@ -43,19 +43,9 @@ loop-again c =
 pub add-pair-spec : {M : Type 1} → statement M
 add-pair-spec =
     tie.close
-    (tie.spec
-    Inv-loop
-    μ-loop
+    (tie.spec Inv-loop μ-loop
     (λ c. (omega arith, paint-none (run-none _)))
-    (λ c. omega arith)
-    (λ c. omega arith)
-    (λ c. omega arith)
+    (λ c. omega arith) (λ c. omega arith) (λ c. omega arith)
     (λ c κs. let s : tie.Start Inv-loop μ-loop = search needs in (omega arith, λ k l h. s .pre .2 k (omega arith) (omega arith)))
-    add-sums
-    (λ c. omega arith)
-    (λ c. omega arith)
-    (λ c. omega arith)
-    (λ c. omega arith)
-    loop-again
-    (λ c. search needs)
+    add-sums (λ c. omega arith) (λ c. omega arith) (λ c. omega arith) (λ c. omega arith) loop-again (λ c. search needs)
     (λ c. cc (le-antisymm (c .before .loop .inv .0) (c .loop-test .left), paint-is (c .before .loop .inv .1))))

@@ -57,12 +57,7 @@ returns-2 c =
 pub column-sums-spec : {M : Type 1} → statement M
 column-sums-spec =
     tie.close
-    (tie.spec
-    sum-three-pairs-requires
+    (tie.spec sum-three-pairs-requires
     (λ c. let s : tie.Start = search needs in search (needs, s .pre .4, four-reach s (c .if1 .taken)))
     (λ c. let s : tie.Start = search needs in search (needs, s .pre .4, four-reach s (c .if1 .taken)))
-    add-pair-requires
-    (λ c. search needs)
-    returns
-    (λ c. search needs)
-    returns-2)
+    add-pair-requires (λ c. search needs) returns (λ c. search needs) returns-2)

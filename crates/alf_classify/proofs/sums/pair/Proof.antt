@@ -14,12 +14,6 @@ entries s = (s .pre .1 (s .args .k) (omega arith) (omega arith), s .pre .1 (s .a
 pub pair-spec : {M : Type 1} → statement M
 pair-spec =
     tie.close
-    (tie.spec
-    (λ c. search needs)
-    (λ c. search needs)
-    (λ c. search needs)
-    (λ c. search needs)
-    (λ c. search needs)
-    (λ c. search needs)
+    (tie.spec (λ c. search needs) (λ c. search needs) (λ c. search needs) (λ c. search needs) (λ c. search needs) (λ c. search needs)
     (λ c. search (needs, entries (c .before .before)))
     (λ c. (refl, omega (arith, entries (c .before .before)))))

@@ -19,16 +19,11 @@ abbrev μ-loop : tie.MeasureT-loop
 pub sum-three-pairs-spec : {M : Type 1} → statement M
 sum-three-pairs-spec =
     tie.close
-    (tie.spec
-    Inv-loop
-    μ-loop
+    (tie.spec Inv-loop μ-loop
     (λ c. (omega arith, paint-none (run-none _)))
     (λ c. omega arith)
     (λ c κs. let s : tie.Start Inv-loop μ-loop = search needs in (omega arith, λ k l h. s .pre .2 k (omega arith) (omega arith)))
-    (λ c. omega arith)
-    (λ c. omega arith)
-    (λ c. omega arith)
-    (λ c. omega arith)
+    (λ c. omega arith) (λ c. omega arith) (λ c. omega arith) (λ c. omega arith)
     (λ c. (omega arith, paint-set _ _ (c .before .before .loop .inv .1) (omega arith) (c .three-pairs .ensures) (λ k h. run-next _ k)))
     (λ c. search needs)
     (λ c. cc (le-antisymm (c .before .loop .inv .0) (c .loop-test .left), paint-is (c .before .loop .inv .1))))

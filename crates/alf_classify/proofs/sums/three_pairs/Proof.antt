@@ -12,12 +12,9 @@ three-pairs-spec =
     tie.close
     (tie.spec
     (λ c κs. let s = c .before in (omega arith, λ k l h. s .pre .1 k (omega arith) (omega arith)))
-    (λ c. search needs)
-    (λ c. search needs)
+    (λ c. search needs) (λ c. search needs)
     (λ c κs. let s = c .before .before in (omega arith, λ k l h. s .pre .1 k (omega arith) (omega arith)))
-    (λ c. search needs)
-    (λ c. search needs)
-    (λ c. search needs)
+    (λ c. search needs) (λ c. search needs) (λ c. search needs)
     (λ c κs. let s = c .before .before .before in (omega arith, λ k l h. s .pre .1 k (omega arith) (omega arith)))
     (λ c. search needs)
     (λ c.

@@ -62,15 +62,11 @@ returns c =
 pub corrected-spec : {M : Type 1} → statement M
 corrected-spec =
     tie.close
-    (tie.spec
-    (λ c κs. search needs)
-    (λ c. search needs)
+    (tie.spec (λ c κs. search needs) (λ c. search needs)
     (λ c. rw (half-is c) (low-fits c))
     (λ c. search needs) (λ c. search needs)
     (λ c κs. let s = c .before in simp (words, s .fits .sum) (omega (arith, s .pre .1)))
     (λ c. rw (rounded-is c) (rounded-fits (c .before .before)))
-    (λ c κs. search needs)
-    (λ c. search needs)
+    (λ c κs. search needs) (λ c. search needs)
     (λ c. let s = c .before .before .before in simp (change-is c, curr-is s) (moved-fits s))
-    (λ c κs. search needs)
-    returns)
+    (λ c κs. search needs) returns)

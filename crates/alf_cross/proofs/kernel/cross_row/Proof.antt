@@ -46,9 +46,7 @@ loop-again c =
 pub cross-row-spec : {M : Type 1} → statement M
 cross-row-spec =
     tie.close
-    (tie.spec
-    Inv-loop
-    μ-loop
+    (tie.spec Inv-loop μ-loop
     (λ c. (omega arith, paint-none (run-none _)))
     (λ c. omega arith) (λ c. omega arith) (λ c. omega arith)
     (λ c κs.
@@ -63,8 +61,7 @@ cross-row-spec =
     (λ c. omega arith) (λ c. omega arith)
     (λ c. omega (arith, c .before .before .before .loop .inv .1 .len))
     (λ c. omega arith) (λ c. omega arith)
-    loop-again
-    (λ c. search needs)
+    loop-again (λ c. search needs)
     (λ c.
     let s = start (c .before) in
     let l = c .before .loop in

@@ -17,8 +17,7 @@ small s =
 pub chroma-index-spec : {M : Type 1} → statement M
 chroma-index-spec =
     tie.close
-    (tie.spec
-    (λ c. search needs)
+    (tie.spec (λ c. search needs)
     (λ c. omega (arith, small c))
     (λ c. omega (arith, small c))
     (λ c. search needs)

@@ -113,13 +113,9 @@ returns-2 c =
 pub filter-piece-spec : {M : Type 1} → statement M
 filter-piece-spec =
     tie.close
-    (tie.spec
-    (λ c. search needs)
-    copy-piece-requires
+    (tie.spec (λ c. search needs) copy-piece-requires
     (λ c κs. search needs) (λ c κs. search needs) (λ c. search needs) (λ c κs. search needs) (λ c. search needs)
-    split-rows-requires
-    piece-rows-requires
-    piece-rows-requires-2
+    split-rows-requires piece-rows-requires piece-rows-requires-2
     (λ c. search needs) (λ c. search needs) (λ c. search needs)
     returns
     (λ c. search needs) (λ c. search needs)

@@ -106,6 +106,4 @@ piece-row-spec =
     (λ c. search needs) (λ c. search needs)
     chroma-index-requires
     (λ c. search needs) (λ c. search needs)
-    offset-row-requires
-    (λ c. search needs)
-    returns)
+    offset-row-requires (λ c. search needs) returns)

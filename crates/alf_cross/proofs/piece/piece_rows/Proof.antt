@@ -99,14 +99,8 @@ returns c =
 pub piece-rows-spec : {M : Type 1} → statement M
 piece-rows-spec =
     tie.close
-    (tie.spec
-    Inv-loop
-    μ-loop
+    (tie.spec Inv-loop μ-loop
     (λ c κs. search needs) (λ c. search needs) (λ c. search needs)
-    loop-holds
-    piece-row-requires
-    add-v
+    loop-holds piece-row-requires add-v
     (λ c. let turn : tie.In-loop Inv-loop μ-loop = search needs in omega (arith, turn .loop-test .taken))
-    loop-again
-    (λ c. search needs)
-    returns)
+    loop-again (λ c. search needs) returns)

@@ -40,10 +40,6 @@ returns c =
 pub offset-row-spec : {M : Type 1} → statement M
 offset-row-spec =
     tie.close
-    (tie.spec
-    (λ c κs. omega arith)
+    (tie.spec (λ c κs. omega arith)
     (λ c. search needs) (λ c. search needs) (λ c. search needs) (λ c. search needs) (λ c. search needs) (λ c. search needs)
-    (λ c. search needs)
-    cross-row-requires
-    (λ c. search needs)
-    returns)
+    (λ c. search needs) cross-row-requires (λ c. search needs) returns)

@@ -11,9 +11,7 @@ use Rattle.alf_cross.proofs.rows.rows_at.Tie as tie
 pub rows-at-spec : {M : Type 1} → statement M
 rows-at-spec =
     tie.close
-    (tie.spec
-    (λ c κs. search needs)
-    (λ c. search needs)
+    (tie.spec (λ c κs. search needs) (λ c. search needs)
     (λ c. let a = c .before .args in omega (arith, mod-lt (a .y) {m = a .ctb} (omega arith)))
     (λ c κs. search needs)
     (λ c.

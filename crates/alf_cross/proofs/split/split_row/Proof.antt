@@ -40,15 +40,10 @@ returns c =
 pub split-row-spec : {M : Type 1} → statement M
 split-row-spec =
     tie.close
-    (tie.spec
-    Inv-loop
-    μ-loop
-    (λ c. (omega arith, refl, record { same = λ k h. omega arith }, λ k h. refl))
+    (tie.spec Inv-loop μ-loop (λ c. (omega arith, refl, record { same = λ k h. omega arith }, λ k h. refl))
     (λ c. omega arith) (λ c. omega arith) (λ c. omega arith) (λ c. omega arith) (λ c. omega arith) (λ c. omega arith) (λ c. omega arith)
     (λ c. omega arith) (λ c. omega arith) (λ c. omega arith) (λ c. omega arith) (λ c. omega arith) (λ c. omega arith) (λ c. omega arith)
     (λ c. omega arith)
     (λ c. simp length-set (omega arith))
     (λ c. omega arith) (λ c. omega arith)
-    loop-again
-    (λ c. search needs)
-    returns)
+    loop-again (λ c. search needs) returns)

@@ -46,14 +46,8 @@ loop-again c =
 pub split-rows-spec : {M : Type 1} → statement M
 split-rows-spec =
     tie.close
-    (tie.spec
-    Inv-loop
-    μ-loop
-    (λ c. (omega arith, refl, record { row = λ j h. record { same = λ k l. omega arith } }))
+    (tie.spec Inv-loop μ-loop (λ c. (omega arith, refl, record { row = λ j h. record { same = λ k l. omega arith } }))
     (λ c. omega (arith, room c))
     (λ c κs. let turn = c .before in omega (arith, room turn, turn .before .loop .inv .1, start (turn .before) .pre .0))
-    (λ c. omega arith)
-    (λ c. omega arith)
-    loop-again
-    (λ c. search needs)
+    (λ c. omega arith) (λ c. omega arith) loop-again (λ c. search needs)
     (λ c. rw (le-antisymm (c .before .loop .inv .0) (c .loop-test .left)) at (c .before .loop .inv .2)))

@@ -129,11 +129,7 @@ returns c =
 pub filter-ctb-spec : {M : Type 1} → statement M
 filter-ctb-spec =
     tie.close
-    (tie.spec
-    Inv-loop
-    μ-loop
-    (λ c κs. search needs)
-    (λ c κs. search needs)
+    (tie.spec Inv-loop μ-loop (λ c κs. search needs) (λ c κs. search needs)
     (λ c κs. walk-limits (along (start c)) (axis-is c))
     (λ c κs. let k = c .before in walk-limits (along (start k)) (axis-is k) .1)
     loop-holds
@@ -143,9 +139,4 @@ filter-ctb-spec =
     (c .loop-test .taken))
     filter-strip-requires
     (λ c. let f = found (called c) in turn-less (turned f) (f .before .loop-test .taken))
-    loop-again
-    (λ c. search needs)
-    (λ c. search needs)
-    (λ c. search needs)
-    (λ c. search needs)
-    returns)
+    loop-again (λ c. search needs) (λ c. search needs) (λ c. search needs) (λ c. search needs) returns)

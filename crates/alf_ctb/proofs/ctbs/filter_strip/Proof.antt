@@ -143,10 +143,7 @@ returns c =
 pub filter-strip-spec : {M : Type 1} → statement M
 filter-strip-spec =
     tie.close
-    (tie.spec
-    Inv-loop
-    μ-loop
-    (λ c κs. search needs)
+    (tie.spec Inv-loop μ-loop (λ c κs. search needs)
     (λ c κs. walk-limits (along c) (axis-is c))
     (λ c κs. let k = c .before in walk-limits (along k) (axis-is k) .1)
     loop-holds
@@ -156,9 +153,4 @@ filter-strip-spec =
     (c .loop-test .taken))
     filter-piece-requires
     (λ c. let f = found (called c) in turn-less (turned f) (f .before .loop-test .taken))
-    loop-again
-    (λ c. search needs)
-    (λ c. search needs)
-    (λ c. search needs)
-    (λ c. search needs)
-    returns)
+    loop-again (λ c. search needs) (λ c. search needs) (λ c. search needs) (λ c. search needs) returns)

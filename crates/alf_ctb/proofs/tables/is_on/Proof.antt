@@ -10,10 +10,7 @@ use Rattle.alf_ctb.proofs.tables.is_on.Tie as tie
 pub is-on-spec : {M : Type 1} → statement M
 is-on-spec =
     tie.close
-    (tie.spec
-    (λ c. search needs)
-    (λ c κs. search needs)
-    (λ c. search needs)
+    (tie.spec (λ c. search needs) (λ c κs. search needs) (λ c. search needs)
     (λ c κs. let s : tie.Start = search needs in (s .pre .1, subst ComponentOf (c .before .filter .given .1) (s .pre .0)))
     (λ c. search needs)
     (λ c κs. let s : tie.Start = search needs in (s .pre .1, subst ComponentOf (c .before .filter2 .given .1) (s .pre .0)))

@@ -37,13 +37,7 @@ load-cross-requires c κs =
 pub load-spec : {M : Type 1} → statement M
 load-spec =
     tie.close
-    (tie.spec
-    (λ c. search needs)
-    load-luma-requires
-    (λ c. search needs)
-    load-chroma-requires
-    (λ c. search needs)
-    load-cross-requires
+    (tie.spec (λ c. search needs) load-luma-requires (λ c. search needs) load-chroma-requires (λ c. search needs) load-cross-requires
     (λ c. search needs)
     (λ c. luma-loaded _ _ _ _ _ _ _ _ _ _ (c .before .before .before .enum-told .given .1) (c .before .load-luma .ensures))
     (λ c. search needs)

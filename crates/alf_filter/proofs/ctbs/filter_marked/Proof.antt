@@ -122,9 +122,7 @@ returns c =
 pub filter-marked-spec : {M : Type 1} → statement M
 filter-marked-spec =
     tie.close
-    (tie.spec
-    Inv-loop
-    μ-loop
+    (tie.spec Inv-loop μ-loop
     (λ c. omega (arith, few-ctbs (start c .pre .0 .planes .picture .grid)))
     loop-holds
     (λ c. sym (c .before .before .loop .inv .2))
@@ -133,6 +131,4 @@ filter-marked-spec =
     filter-address-requires
     (λ c. omega (arith, few c))
     (λ c. omega (arith, turned c .loop-test .taken))
-    loop-again
-    (λ c. search needs)
-    returns)
+    loop-again (λ c. search needs) returns)

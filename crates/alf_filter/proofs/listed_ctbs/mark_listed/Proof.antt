@@ -59,18 +59,11 @@ returns c =
 pub mark-listed-spec : {M : Type 1} → statement M
 mark-listed-spec =
     tie.close
-    (tie.spec
-    Inv-loop
-    μ-loop
-    (λ c. (omega arith, refl, λ i e. paint-none none-listed))
-    (λ c. omega arith)
-    (λ c. omega arith)
+    (tie.spec Inv-loop μ-loop (λ c. (omega arith, refl, λ i e. paint-none none-listed)) (λ c. omega arith) (λ c. omega arith)
     (λ c κs. search needs)
     (λ c κs. (start (turn c .before) .pre .0, in-tables c .1))
     (λ c κs. search needs)
     (λ c. in-tables (c .before .before) .0)
     (λ c. omega (arith, turn (c .before .before) .loop-test .taken))
     (λ c. omega (arith, turn (c .before .before) .loop-test .taken))
-    loop-again
-    (λ c. search needs)
-    returns)
+    loop-again (λ c. search needs) returns)

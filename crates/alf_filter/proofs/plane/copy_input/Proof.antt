@@ -19,8 +19,7 @@ module _ (s : tie.Start) {f : Filter} (e : s .args .filter ≡ f) where
 pub copy-input-spec : {M : Type 1} → statement M
 copy-input-spec =
     tie.close
-    (tie.spec
-    (λ c. search needs)
+    (tie.spec (λ c. search needs)
     (λ c κs. let s : tie.Start = search needs in named-length s (c .before .enum-told .given .1))
     (λ c. search needs)
     (λ c κs. let s : tie.Start = search needs in named-length s (c .before .enum-told2 .given .1))

@@ -107,18 +107,7 @@ returns c =
 pub filter-plane-spec : {M : Type 1} → statement M
 filter-plane-spec =
     tie.close
-    (tie.spec
-    grid-requires
-    (λ c. search needs)
-    plan-sides-requires
-    (λ c. search needs)
-    mark-listed-requires
-    (λ c. search needs)
+    (tie.spec grid-requires (λ c. search needs) plan-sides-requires (λ c. search needs) mark-listed-requires (λ c. search needs)
     (λ c κs. refl)
     (λ c κs. let s = start (gridded (planned (marked (c .before .before))) .before) in plane-length (s .args .filter) (input s) (s .pre))
-    (λ c. search needs)
-    (λ c. search needs)
-    (λ c. search needs)
-    filter-marked-requires
-    (λ c. search needs)
-    returns)
+    (λ c. search needs) (λ c. search needs) (λ c. search needs) filter-marked-requires (λ c. search needs) returns)

@@ -38,11 +38,6 @@ returns c = simp (summed (c .before)) at (c .filtered .ensures)
 pub luma-at-spec : {M : Type 1} → statement M
 luma-at-spec =
     tie.close
-    (tie.spec
-    (λ c. search needs)
-    (λ c. search needs)
-    (λ c. search needs)
-    (λ c. search needs)
+    (tie.spec (λ c. search needs) (λ c. search needs) (λ c. search needs) (λ c. search needs)
     (λ c κs. let s = c .before .before in (s .pre .0, s .pre .1, s .pre .2, s .pre .0 .samples _ (omega (arith, s .pre .0))))
-    filtered-requires
-    returns)
+    filtered-requires returns)

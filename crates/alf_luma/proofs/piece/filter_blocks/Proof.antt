@@ -125,16 +125,5 @@ returns c =
 pub filter-blocks-spec : {M : Type 1} → statement M
 filter-blocks-spec =
     tie.close
-    (tie.spec
-    (λ c κs. search needs)
-    (λ c. search needs)
-    (λ c. search needs)
-    (λ c. search needs)
-    (λ c. search needs)
-    (λ c. search needs)
-    spread-requires
-    (λ c. search needs)
-    filter-four-requires
-    (λ c. search needs)
-    (λ c. search needs)
-    returns)
+    (tie.spec (λ c κs. search needs) (λ c. search needs) (λ c. search needs) (λ c. search needs) (λ c. search needs) (λ c. search needs)
+    spread-requires (λ c. search needs) filter-four-requires (λ c. search needs) (λ c. search needs) returns)

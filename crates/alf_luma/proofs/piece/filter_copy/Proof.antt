@@ -73,15 +73,9 @@ returns c =
 pub filter-copy-spec : {M : Type 1} → statement M
 filter-copy-spec =
     tie.close
-    (tie.spec
-    Inv-loop
-    μ-loop
+    (tie.spec Inv-loop μ-loop
     (λ c κs. let s : tie.Start Inv-loop μ-loop = search needs in omega (arith, s .pre .1 .down .numbers .filled))
     (λ c. (omega arith, start c .pre .0 .spread, refl, paint-none (λ k. rect-none _ _ _ _ _ k (inr (omega arith)))))
-    filter-blocks-requires
-    (λ c. search needs)
+    filter-blocks-requires (λ c. search needs)
     (λ c. let turn : tie.In-loop Inv-loop μ-loop = search needs in omega (arith, turn .loop-test .taken))
-    loop-again
-    (λ c. search needs)
-    (λ c. search needs)
-    returns)
+    loop-again (λ c. search needs) (λ c. search needs) returns)

@@ -78,20 +78,12 @@ returns c =
 pub filter-four-spec : {M : Type 1} → statement M
 filter-four-spec =
     tie.close
-    (tie.spec
-    Inv-loop
-    μ-loop
-    (λ c. search needs)
+    (tie.spec Inv-loop μ-loop (λ c. search needs)
     (λ c. (omega arith, paint-none (λ k. rect-none _ _ _ _ _ k (inr (omega arith)))))
     (λ c. omega (arith, bounds c))
     (λ c. omega (arith, in-plane c))
     (λ c. omega (arith, in-plane c))
     (λ c. omega (arith, bounds c, c .loop-test .taken))
-    (λ c. omega arith)
-    (λ c. omega arith)
-    filter-row-requires
-    (λ c. omega arith)
+    (λ c. omega arith) (λ c. omega arith) filter-row-requires (λ c. omega arith)
     (λ c. let turn : tie.In-loop Inv-loop μ-loop = search needs in omega (arith, turn .loop-test .taken))
-    loop-again
-    (λ c. search needs)
-    returns)
+    loop-again (λ c. search needs) returns)

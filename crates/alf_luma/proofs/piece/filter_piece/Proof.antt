@@ -87,15 +87,5 @@ returns c =
 pub filter-piece-spec : {M : Type 1} → statement M
 filter-piece-spec =
     tie.close
-    (tie.spec
-    (λ c. search needs)
-    copy-piece-requires
-    (λ c. search needs)
-    piece-classes-requires
-    (λ c. search needs)
-    filter-copy-requires
-    (λ c. search needs)
-    (λ c. search needs)
-    (λ c. search needs)
-    (λ c. search needs)
-    returns)
+    (tie.spec (λ c. search needs) copy-piece-requires (λ c. search needs) piece-classes-requires (λ c. search needs) filter-copy-requires
+    (λ c. search needs) (λ c. search needs) (λ c. search needs) (λ c. search needs) returns)

@@ -49,16 +49,11 @@ returns c =
 pub filter-row-spec : {M : Type 1} → statement M
 filter-row-spec =
     tie.close
-    (tie.spec
-    (λ c κs. search needs)
-    (λ c. search needs)
+    (tie.spec (λ c κs. search needs) (λ c. search needs)
     (λ c.
     let s : tie.Start = search needs in
     let positive : 0 < s .args .grid .ctb = omega (arith, s .pre .0 .grid .ctbLow) in
     omega (arith, mod-lt (s .args .y) positive))
     (λ c κs. search needs)
     (λ c κs. let s = start c in omega (arith, offsets c, s .pre))
-    (λ c. search needs)
-    luma-row-requires
-    (λ c. search needs)
-    returns)
+    (λ c. search needs) luma-row-requires (λ c. search needs) returns)

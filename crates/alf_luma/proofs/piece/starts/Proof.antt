@@ -15,12 +15,7 @@ room c m h = mul-le-mul h (start c .pre .0)
 pub starts-spec : {M : Type 1} → statement M
 starts-spec =
     tie.close
-    (tie.spec
-    (λ c. search needs)
-    (λ c. search needs)
-    (λ c. search needs)
-    (λ c. search needs)
-    (λ c. search needs)
+    (tie.spec (λ c. search needs) (λ c. search needs) (λ c. search needs) (λ c. search needs) (λ c. search needs)
     (λ c. let a = start c .args in omega (arith, room c (a .t + 3 - a .r .y3) (omega arith)))
     (λ c. search needs)
     (λ c. let a = start c .args in omega (arith, room c (a .t + 3 - a .r .y2) (omega arith)))

@@ -19,11 +19,5 @@ put-filter-requires c κs =
 pub put-class-spec : {M : Type 1} → statement M
 put-class-spec =
     tie.close
-    (tie.spec
-    (λ c. search needs)
-    (λ c. search needs)
-    (λ c. search needs)
-    (λ c. search needs)
-    put-filter-requires
-    (λ c. search needs)
+    (tie.spec (λ c. search needs) (λ c. search needs) (λ c. search needs) (λ c. search needs) put-filter-requires (λ c. search needs)
     (λ c. search needs))

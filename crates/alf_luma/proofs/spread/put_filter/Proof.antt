@@ -62,21 +62,13 @@ returns c =
 pub put-filter-spec : {M : Type 1} → statement M
 put-filter-spec =
     tie.close
-    (tie.spec
-    Inv-loop
-    μ-loop
+    (tie.spec Inv-loop μ-loop
     (λ c. (omega arith, fill-none (λ k. rect-none _ _ _ _ _ k (inr (omega arith)))))
-    (λ c. omega arith)
-    (λ c. omega arith)
+    (λ c. omega arith) (λ c. omega arith)
     (λ c. omega (arith, index-small (c .before)))
-    (λ c. omega arith)
-    (λ c. omega arith)
+    (λ c. omega arith) (λ c. omega arith)
     (λ c. omega (arith, index-small (c .before .before)))
     (λ c. omega (arith, index-small (c .before .before)))
     (λ c. omega (arith, index-small (c .before .before)))
     (λ c κs. let turn : tie.In-loop Inv-loop μ-loop = search needs in omega (arith, turn .before .loop .inv .1 .len))
-    (λ c. omega arith)
-    (λ c. omega arith)
-    loop-again
-    (λ c. search needs)
-    returns)
+    (λ c. omega arith) (λ c. omega arith) loop-again (λ c. search needs) returns)

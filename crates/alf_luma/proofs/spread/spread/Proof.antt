@@ -56,16 +56,7 @@ returns c =
 pub spread-spec : {M : Type 1} → statement M
 spread-spec =
     tie.close
-    (tie.spec
-    Inv-loop
-    μ-loop
+    (tie.spec Inv-loop μ-loop
     (λ c. (omega arith, fill-none (λ k. rect-none _ _ _ _ _ k (inl (omega arith)))))
-    (λ c. omega arith)
-    (λ c. omega arith)
-    (λ c. omega arith)
-    put-class-requires
-    (λ c. omega arith)
-    (λ c. omega arith)
-    loop-again
-    (λ c. search needs)
-    returns)
+    (λ c. omega arith) (λ c. omega arith) (λ c. omega arith) put-class-requires (λ c. omega arith) (λ c. omega arith) loop-again
+    (λ c. search needs) returns)

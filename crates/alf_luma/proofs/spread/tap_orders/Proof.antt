@@ -38,15 +38,8 @@ returns c =
 pub tap-orders-spec : {M : Type 1} → statement M
 tap-orders-spec =
     tie.close
-    (tie.spec
-    Inv-loop
-    μ-loop
+    (tie.spec Inv-loop μ-loop
     (λ c. (omega arith, c .before .pre, paint-none (run-none 0)))
     (λ c κs. omega arith)
     (λ c. omega (arith, c .tap-index .ensures .1))
-    (λ c. omega arith)
-    (λ c. omega arith)
-    (λ c. omega arith)
-    loop-again
-    (λ c. search needs)
-    returns)
+    (λ c. omega arith) (λ c. omega arith) (λ c. omega arith) loop-again (λ c. search needs) returns)

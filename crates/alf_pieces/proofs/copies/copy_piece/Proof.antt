@@ -21,17 +21,12 @@ abbrev μ-loop : tie.MeasureT-loop
 pub copy-piece-spec : {M : Type 1} → statement M
 copy-piece-spec =
     tie.close
-    (tie.spec
-    Inv-loop
-    μ-loop
-    (λ c κs. search needs)
-    (λ c. search needs)
+    (tie.spec Inv-loop μ-loop (λ c κs. search needs) (λ c. search needs)
     (λ c. (omega arith, rw zero-mul (paint-none (λ k. run-none _ k))))
     (λ c κs.
     let s : tie.Start Inv-loop μ-loop = search needs in
     (s .pre .0, s .pre .1, s .pre .2, s .pre .3, s .pre .4, omega (arith, s .pre .5, c .before .before .loop .inv .1 .len), omega arith))
-    (λ c. omega arith)
-    (λ c. omega arith)
+    (λ c. omega arith) (λ c. omega arith)
     (λ c.
     let looped : tie.At-loop Inv-loop μ-loop = search needs in (
       omega arith,

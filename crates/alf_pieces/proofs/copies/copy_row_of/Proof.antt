@@ -25,14 +25,9 @@ copy-room c =
 pub copy-row-of-spec : {M : Type 1} → statement M
 copy-row-of-spec =
     tie.close
-    (tie.spec
-    (λ c κs. search needs)
-    (λ c κs. search needs)
-    (λ c κs. search needs)
-    (λ c κs. search needs)
+    (tie.spec (λ c κs. search needs) (λ c κs. search needs) (λ c κs. search needs) (λ c κs. search needs)
     (λ c. omega (arith, plane-room (c .before .before .before)))
-    (λ c. search needs)
-    (λ c. search needs)
+    (λ c. search needs) (λ c. search needs)
     (λ c. omega (arith, copy-room (c .before .before)))
     (λ c κs.
     let wide = c .before .before in
@@ -48,5 +43,4 @@ copy-row-of-spec =
       omega (arith, high, plane-room read),
       copy-room wide,
     ))
-    (λ c. search needs)
-    (λ c. search row-is))
+    (λ c. search needs) (λ c. search row-is))

@@ -20,17 +20,9 @@ abbrev μ-loop : tie.MeasureT-loop
 pub copy-run-spec : {M : Type 1} → statement M
 copy-run-spec =
     tie.close
-    (tie.spec
-    Inv-loop
-    μ-loop
+    (tie.spec Inv-loop μ-loop
     (λ c. (omega arith, paint-none (λ k. run-none _ k)))
-    (λ c. omega arith)
-    (λ c. omega arith)
-    (λ c. omega arith)
-    (λ c. omega arith)
-    (λ c. omega arith)
-    (λ c. omega arith)
-    (λ c. omega arith)
+    (λ c. omega arith) (λ c. omega arith) (λ c. omega arith) (λ c. omega arith) (λ c. omega arith) (λ c. omega arith) (λ c. omega arith)
     (λ c. omega arith)
     (λ c. (omega arith, paint-set _ _ (c .before .before .loop .inv .1) (omega arith) (run-value _ _ _ _) (λ k _. run-more _ _ k)))
     (λ c. search needs)

@@ -8,9 +8,6 @@ pub row-lowest-spec : {M : Type 1} → statement M
 unfolding rowLowest
 row-lowest-spec =
     tie.close
-    (tie.spec
-    (λ c. search needs)
-    (λ c. search needs)
-    (λ c. search needs)
+    (tie.spec (λ c. search needs) (λ c. search needs) (λ c. search needs)
     (λ c. rw (c .before .if1 .taken))
     (λ c. rw (c .before .if1 .left)))

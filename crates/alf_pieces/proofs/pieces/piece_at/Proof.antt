@@ -31,8 +31,7 @@ returns c =
 pub piece-at-spec : {M : Type 1} → statement M
 piece-at-spec =
     tie.close
-    (tie.spec
-    (λ c κs. search needs)
+    (tie.spec (λ c κs. search needs)
     (λ c κs. let s = c .before .before in in-ctb _ (s .pre) (omega arith) (omega (arith, s .pre .upto)))
     (λ c κs. search needs)
     (λ c κs.
@@ -40,6 +39,4 @@ piece-at-spec =
     let s = stop .before .before in
     in-ctb _ (s .pre) (omega (arith, c .previous .ensures, stop .piece-end .ensures))
     (omega (arith, c .previous .ensures, stop .piece-end .ensures)))
-    (λ c κs. search needs)
-    (λ c κs. search needs)
-    returns)
+    (λ c κs. search needs) (λ c κs. search needs) returns)

@@ -30,9 +30,7 @@ one-left c = omega (arith, c .loop-test .taken, c .before .before .ctb-limit .en
 pub piece-end-spec : {M : Type 1} → statement M
 piece-end-spec =
     tie.close
-    (tie.spec
-    Inv-loop
-    μ-loop
+    (tie.spec Inv-loop μ-loop
     (λ c κs. let s = c .before in (s .pre .high, omega (arith, s .pre .from, s .pre .upto, s .pre .size)))
     (λ c. scan-start (start c .pre))
     (λ c. omega (arith, c .loop .inv .upto, c .before .ctb-limit .ensures, limit-small (c .before)))

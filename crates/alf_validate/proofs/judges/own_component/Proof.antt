@@ -8,8 +8,7 @@ pub own-component-spec : {M : Type 1} → statement M
 unfolding componentValid
 own-component-spec =
     tie.close
-    (tie.spec
-    (λ c. search needs)
+    (tie.spec (λ c. search needs)
     (λ c. search needs) (λ c κs. search needs)
     (λ c. search needs) (λ c κs. search needs)
     (λ c. rw (c .enum-told .given .1))

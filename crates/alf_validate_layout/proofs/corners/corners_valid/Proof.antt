@@ -21,11 +21,7 @@ abbrev μ-corners : tie.MeasureT-corners
 pub corners-valid-spec : {M : Type 1} → statement M
 corners-valid-spec =
     tie.close
-    (tie.spec
-    Inv-loop
-    μ-loop
-    Inv-corners
-    μ-corners
+    (tie.spec Inv-loop μ-loop Inv-corners μ-corners
     (λ c. search (corners, needs)) (λ c. search (corners, needs)) (λ c. search (corners, needs)) (λ c. search (corners, needs))
     (λ c κs. search needs) (λ c. search (corners, needs)) (λ c. search (corners, needs)) (λ c. search (corners, needs))
     (λ c. search (corners, needs)) (λ c. search (corners, needs)) (λ c. search (corners, needs)) (λ c. search (corners, needs))

@@ -18,9 +18,7 @@ abbrev μ-loop : tie.MeasureT-loop
 pub bytes-below-spec : {M : Type 1} → statement M
 bytes-below-spec =
     tie.close
-    (tie.spec
-    Inv-loop
-    μ-loop
+    (tie.spec Inv-loop μ-loop
     (λ c. search scans) (λ c. search needs)
     (λ c. omega (arith, c .shared-slice-known .given (c .before .before .loop .i)))
     (λ c. search needs) (λ c. search needs) (λ c. search scans)

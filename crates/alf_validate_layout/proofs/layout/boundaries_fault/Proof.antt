@@ -30,8 +30,7 @@ pub boundaries-fault-spec : {M : Type 1} → statement M
 unfolding boundariesFault
 boundaries-fault-spec =
     tie.close
-    (tie.spec
-    (λ c κs. search needs)
+    (tie.spec (λ c κs. search needs)
     (λ c.
     stops _ _ (c .before .virtual-boundaries-valid .ensures _ refl refl refl) (c .if1 .taken))
     (λ c κs. search needs)

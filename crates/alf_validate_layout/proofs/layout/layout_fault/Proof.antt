@@ -11,8 +11,7 @@ pub layout-fault-spec : {M : Type 1} → statement M
 unfolding layoutFault boundariesFault layoutTablesFault
 layout-fault-spec =
     tie.close
-    (tie.spec
-    (λ c κs. search needs)
+    (tie.spec (λ c κs. search needs)
     (λ c. search (stops, goes) depth 8)
     (λ c κs. search needs)
     (λ c. search (stops, goes) depth 8)

@@ -8,5 +8,4 @@ pub bit-depth-valid-spec : {M : Type 1} → statement M
 unfolding bitDepthValid
 bit-depth-valid-spec =
     tie.close
-    (tie.spec
-    (λ c. search needs))
+    (tie.spec (λ c. search needs))

@@ -8,5 +8,4 @@ pub chroma-format-valid-spec : {M : Type 1} → statement M
 unfolding chromaFormatValid
 chroma-format-valid-spec =
     tie.close
-    (tie.spec
-    (λ c. search needs))
+    (tie.spec (λ c. search needs))

@@ -8,5 +8,4 @@ pub ctb-size-valid-spec : {M : Type 1} → statement M
 unfolding ctbSizeValid
 ctb-size-valid-spec =
     tie.close
-    (tie.spec
-    (λ c. search needs))
+    (tie.spec (λ c. search needs))

@@ -17,9 +17,7 @@ pub each-follows-spec : {M : Type 1} → statement M
 unfolding followsAt
 each-follows-spec =
     tie.close
-    (tie.spec
-    Inv-loop
-    μ-loop
+    (tie.spec Inv-loop μ-loop
     (λ c. search (scans, needs)) (λ c. search (scans, needs)) (λ c. search (scans, needs)) (λ c. search (scans, needs))
     (λ c. search (scans, needs)) (λ c κs. search needs) (λ c. search (scans, needs)) (λ c. search (scans, needs))
     (λ c. search (scans, needs)) (λ c. search (scans, needs)) (λ c. search (scans, needs)))

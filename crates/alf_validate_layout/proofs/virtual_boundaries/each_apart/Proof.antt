@@ -17,9 +17,7 @@ pub each-apart-spec : {M : Type 1} → statement M
 unfolding apartAt
 each-apart-spec =
     tie.close
-    (tie.spec
-    Inv-loop
-    μ-loop
+    (tie.spec Inv-loop μ-loop
     (λ c. search (scans, needs)) (λ c. search (scans, needs)) (λ c. search (scans, needs)) (λ c. search (scans, needs))
     (λ c. search (scans, needs)) (λ c. search (scans, needs)) (λ c. search (scans, needs)) (λ c κs. search needs)
     (λ c. search (scans, needs)) (λ c. search (scans, needs)) (λ c. search (scans, needs)) (λ c. search (scans, needs))

@@ -18,9 +18,7 @@ abbrev μ-loop : tie.MeasureT-loop
 pub each-position-valid-spec : {M : Type 1} → statement M
 each-position-valid-spec =
     tie.close
-    (tie.spec
-    Inv-loop
-    μ-loop
+    (tie.spec Inv-loop μ-loop
     (λ c. search (scans, needs)) (λ c. search (scans, needs)) (λ c. search (scans, needs)) (λ c κs. search needs)
     (λ c. search (scans, needs)) (λ c. search (scans, needs)) (λ c. search (scans, needs))
     (λ c. every-done 0 _ _ (c .before .loop .inv) (c .loop-test .left)))

@@ -13,10 +13,7 @@ filters-valid-spec =
     tie.close
     (tie.spec
     (λ c κs. depth-bounds _ (c .before .pre) .1)
-    (λ c. search needs)
-    (λ c κs. search needs)
-    (λ c. search needs)
-    (λ c. search needs)
+    (λ c. search needs) (λ c κs. search needs) (λ c. search needs) (λ c. search needs)
     (λ c. let bank : tie.After-bank-valid = search needs in
     rw (c .before .enum-told .given .1, bank .bank-valid .ensures, c .fixed-valid .ensures))
     (λ c. let bank : tie.After-bank-valid = search needs in
