@@ -1,5 +1,5 @@
--- Clipping as code of either width does it: what its tests pick is Clip3, a minimum or a maximum, and what a clip to a sample's levels gives
--- is a level. Assumes nothing.
+-- Clipping as code of either width does it: what its tests pick is Clip3, a minimum or a maximum, and what a clip to a sample's levels
+-- gives is a level. Assumes nothing.
 use mathlib.Core.Path.{_≡_}
 use mathlib.Core.Bool.{Bool, true, false}
 use Prim.Native.Nat.{ℕ, _-_, _^_, _≤_, _<_}
