@@ -17,7 +17,7 @@ use Rattle.alf_spec.proofs.Computed.{computedResult, computedFault}
 abbrev quarters : Bool → Bool → List ℕ → List ℕ → Layout
 quarters tiles slices columns rows =
     layoutOf (pictureOf 64 64 5 8 0 2 tiles slices) columns rows (0 ∷ 1 ∷ []) (0 ∷ 0 ∷ []) (0 ∷ 1 ∷ 1 ∷ 1 ∷ []) (0 ∷ 1 ∷ 0 ∷ 1 ∷ [])
-        (0 ∷ replicate 63 1)
+    (0 ∷ replicate 63 1)
 
 -- by number: top, bottom, left, right
 abbrev causes : Layout → ℕ → ℕ → List ℕ
