@@ -36,14 +36,18 @@ module _ {f : Filter} {p : Picture} {g : Grid} {luma chroma orders : List ℕ} (
     {copy differences output : ℕ}
     (isInput : FilterInput f p g luma chroma orders) (isNumbers : Numbers f filters)
     (isRooms : FilterRooms f p copy differences taps output) where
+  -- by the name that the filter turns out to have
+  by-name : {name : Filter} → f ≡ name
+      → FilterInput name p g luma chroma orders × Numbers name filters × FilterRooms name p copy differences taps output
+  by-name e = rw (← e) (isInput, isNumbers, isRooms)
+
   pub luma-work : f ≡ Luma → LumaPieceInput p g luma filters orders copy differences taps output
   luma-work e =
-      let given = subst (λ f. FilterInput f p g luma chroma orders) e isInput in
-      let rooms = subst (λ f. FilterRooms f p copy differences taps output) e isRooms in
+      let (given, numbers, rooms) = by-name e in
       record {
         blocks = record {
           picture = given .picture;
-          numbers = subst (λ f. Numbers f filters) e isNumbers;
+          numbers = numbers;
           order = given .order;
           spread = rooms .spread;
           outputLength = simp div-one at (rooms .outputLength);
@@ -56,9 +60,7 @@ module _ {f : Filter} {p : Picture} {g : Grid} {luma chroma orders : List ℕ} (
 
   pub chroma-work : {component : ℕ} → f ≡ Chroma component → ChromaWork p g chroma filters copy taps output
   chroma-work e =
-      let given = subst (λ f. FilterInput f p g luma chroma orders) e isInput in
-      let rooms = subst (λ f. FilterRooms f p copy differences taps output) e isRooms in
-      let numbers = subst (λ f. Numbers f filters) e isNumbers in
+      let (given, numbers, rooms) = by-name e in
       record {
         picture = given .picture;
         chromaLength = given .chromaLength refl;
@@ -73,9 +75,7 @@ module _ {f : Filter} {p : Picture} {g : Grid} {luma chroma orders : List ℕ} (
 
   pub cross-work : {component : ℕ} → f ≡ CrossComponent component → CrossWork p g luma chroma filters copy differences output
   cross-work e =
-      let given = subst (λ f. FilterInput f p g luma chroma orders) e isInput in
-      let rooms = subst (λ f. FilterRooms f p copy differences taps output) e isRooms in
-      let numbers = subst (λ f. Numbers f filters) e isNumbers in
+      let (given, numbers, rooms) = by-name e in
       record {
         planes = record {
           picture = given .picture;
@@ -94,24 +94,8 @@ module _ {f : Filter} {p : Picture} {g : Grid} {luma chroma orders : List ℕ} (
 -- a piece of whole blocks in the samples of a chroma plane
 pub scaled-in : {n r : ℕ} {p : Piece} → Ratio r → BlockPiece n p → PieceIn (n / r) (scaled r p)
 unfolding scaled
-scaled-in whole b =
-    let m = b .numbers in
-    let low = m .low in
-    let filled = m .filled in
-    let high = m .high in
-    let inside = m .inside in
-    let small = m .small in
-    record { low = omega arith; filled = omega arith; high = omega arith; inside = omega arith; small = omega arith }
-scaled-in half b =
-    let m = b .numbers in
-    let low = m .low in
-    let filled = m .filled in
-    let high = m .high in
-    let inside = m .inside in
-    let small = m .small in
-    let start4 = b .start4 in
-    let end4 = b .end4 in
-    record { low = omega arith; filled = omega arith; high = omega arith; inside = omega arith; small = omega arith }
+scaled-in whole b = omega arith
+scaled-in half b = omega arith
 
 -- ---- what they leave
 

@@ -1,21 +1,22 @@
 -- What the tables say of a CTB's filter, under the one name of the filters. Assumes nothing.
 use mathlib.Core.Path.{_≡_, sym, subst}
 use mathlib.Core.List.{List}
-use Prim.Native.Nat.{ℕ, _+_, _-_, _<_}
+use Prim.Native.Nat.{ℕ, _+_}
 use native.Mathlib.Omega.{arith}
 use lib.IntN.{ℤ, pos}
 use lib.ListN.{length, getD}
 use Rattle.alf_spec.specs.declared.Ctb.{Ctb}
 use Rattle.alf_spec.specs.Input.{Input}
-use Rattle.alf_spec.specs.Parameters.{crossAps, crossIndex, crossCoeff}
-use Rattle.alf_math.specs.Integers.{CoeffRange, ClipRange}
-use Rattle.alf_params.specs.Filters.{LumaFilters, FilterNumbers, ChromaFilter}
-use Rattle.alf_params.specs.Tables.{TablesGiven, FixedOf}
+use Rattle.alf_params.specs.declared.filters.ApsRun.{ApsRun}
+use Rattle.alf_params.specs.Filters.{LumaFilters, FilterNumbers}
+use Rattle.alf_params.specs.Tables.{ctbNumber, CtbTables, TablesGiven, FixedOf}
+use Rattle.alf_params.specs.Numbers.{FromAps, chromaRun, crossRun}
+use Rattle.alf_params.proofs.LoadedFilters.{chroma-coefficients, chroma-clips, chroma-filter, cross-coefficients, cross-filter}
 use Rattle.alf_spec.specs.declared.Filter.{Filter}
 use Rattle.alf_spec.specs.declared.Filter.the-variants.{Luma, Chroma, CrossComponent}
 use Rattle.alf_ctb.specs.Filters.{OwnFilter}
 use Rattle.alf_ctb.specs.FilterWork.{Numbers}
-use Rattle.alf_ctb.specs.Tables.{FixedSame}
+use Rattle.alf_ctb.specs.Tables.{ComponentOf, FixedSame, Switched}
 
 -- the numbers that stand in a list are those of the CTB's filter
 module _ (f : Filter) (filters : List ℤ) (depth : ℕ) (fixedFilters : List ℤ) (fixedMap sliceMap sliceParams : List ℕ) (bank : List ℤ)
@@ -30,17 +31,28 @@ module _ (f : Filter) (filters : List ℤ) (depth : ℕ) (fixedFilters : List �
       → Loaded f
   luma-loaded e h = subst Loaded (sym e) h
 
-  pub chroma-loaded : {component : ℕ} → f ≡ Chroma component → length filters ≡ 600
-      → ((j : ℕ) → j < 6 → CoeffRange (getD filters j (pos 0))) × ((j : ℕ) → j < 6 → ClipRange (getD filters (6 + j) (pos 0)))
-      × ((i : Input) (c : Ctb) → TablesGiven i c sliceMap sliceParams bank ctbParams k → ChromaFilter i c component filters) → Loaded f
-  chroma-loaded e n h =
-      subst Loaded (sym e) (record { count = omega arith; coefficients = h .0; clips = h .1 }, λ i c t same. h .2 i c t)
+  -- from one of the slice's APSs
+  module _ (T : CtbTables sliceMap sliceParams bank ctbParams k) {old : List ℤ} (room : length old ≡ 600) {run : ApsRun}
+      (P : FromAps sliceMap sliceParams bank k run old filters) (is : ComponentOf f) where
+    pub chroma-loaded : {component : ℕ} → f ≡ Chroma component → run ≡ chromaRun (ctbNumber ctbParams k (4 + component)) → Loaded f
+    chroma-loaded e r =
+        let own = rw r at P in
+        let component = rw e at is in
+        subst Loaded (sym e) (
+          record {
+            count = omega (arith, own .filled .len);
+            coefficients = chroma-coefficients T room component own;
+            clips = chroma-clips T room component own;
+          },
+          λ i c t same. chroma-filter T room component own i c t,
+        )
 
-  pub cross-loaded : {component : ℕ} → f ≡ CrossComponent component → length filters ≡ 600
-      → ((j : ℕ) → CoeffRange (getD filters j (pos 0))) × ((i : Input) (c : Ctb) → TablesGiven i c sliceMap sliceParams bank ctbParams k
-      → (j : ℕ) → j < 7 → getD filters j (pos 0) ≡ crossCoeff i (crossAps i c component) component (crossIndex i c component - 1) j)
-      → Loaded f
-  cross-loaded e n h = subst Loaded (sym e) (
-    record { count = omega arith; coefficients = h .0 },
-    λ i c t same. record { coefficients = h .1 i c t },
-  )
+    pub cross-loaded : {component : ℕ} → f ≡ CrossComponent component → run ≡ crossRun component (ctbNumber ctbParams k (6 + component))
+        → Switched f ctbParams k → ((j : ℕ) → getD old j (pos 0) ≡ pos 0) → Loaded f
+    cross-loaded e r on empty =
+        let own = rw r at P in
+        let component = rw e at is in
+        subst Loaded (sym e) (
+          record { count = omega (arith, own .filled .len); coefficients = cross-coefficients T room component (rw e at on) empty own },
+          λ i c t same. record { coefficients = cross-filter T room component (rw e at on) empty own i c t },
+        )

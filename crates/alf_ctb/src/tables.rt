@@ -11,9 +11,10 @@ ghost use Rattle.alf_ctb.specs.Filters.{isOn, OwnFilter};
 ghost use Rattle.alf_ctb.specs.FilterWork.{Numbers};
 ghost use Rattle.alf_ctb.specs.Tables.{ComponentOf, FixedGiven, FixedSame, Switched};
 use alf_params::chroma_on;
+use alf_params::chroma_run;
 use alf_params::cross_on;
-use alf_params::load_chroma;
-use alf_params::load_cross;
+use alf_params::cross_run;
+use alf_params::load_from_aps;
 use alf_params::load_luma;
 use alf_params::luma_on;
 use alf_spec::Filter;
@@ -68,26 +69,12 @@ pub fn load(
             );
         }
         Filter::Chroma(component) => {
-            load_chroma(
-                component,
-                k,
-                slice_map,
-                slice_params,
-                bank,
-                ctb_params,
-                filters,
-            );
+            let run = chroma_run(component, k, ctb_params);
+            load_from_aps(run, k, slice_map, slice_params, bank, filters);
         }
         Filter::CrossComponent(component) => {
-            load_cross(
-                component,
-                k,
-                slice_map,
-                slice_params,
-                bank,
-                ctb_params,
-                filters,
-            );
+            let run = cross_run(component, k, ctb_params);
+            load_from_aps(run, k, slice_map, slice_params, bank, filters);
         }
     }
 }

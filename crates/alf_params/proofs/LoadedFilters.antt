@@ -18,9 +18,10 @@ use Rattle.alf_lists.specs.Regions.{between}
 use Rattle.alf_lists.specs.Filled.{Filled}
 use Rattle.alf_lists.proofs.Painted.{fill-in, fill-out}
 use Rattle.alf_lists.proofs.Regions.{in-run, run-facts, order}
+use Rattle.alf_params.specs.declared.filters.ApsRun.{ApsRun}
 use Rattle.alf_params.specs.Filters.{LumaFilters, FilterNumbers, ChromaFilter}
 use Rattle.alf_params.specs.Tables.{sliceNumber, ctbNumber, CtbTables, FixedTables, TablesGiven, FixedOf}
-use Rattle.alf_params.specs.Numbers.{copiedFrom, FromAps, fixedNumber}
+use Rattle.alf_params.specs.Numbers.{copiedFrom, FromAps, chromaRun, crossRun, fixedNumber}
 use Rattle.alf_params.proofs.TableNumbers.{own-number, slice-number, bank-number}
 use Rattle.alf_params.proofs.BankRanges.{number-in, piece-of, luma-coefficient, luma-clip, chroma-coefficient, chroma-clip}
 use Rattle.alf_params.proofs.BankRanges.{cross-coefficient}
@@ -31,79 +32,66 @@ zeros zero j = refl
 zeros (suc n) zero = refl
 zeros (suc n) (suc j) = zeros n j
 
--- numbers of an APS that are copied to the front
-module _ {sliceMap sliceParams : List ℕ} {bank : List ℤ} {k name first n : ℕ} {xs ys : List ℤ}
-    (P : FromAps sliceMap sliceParams bank k name first n xs ys) (room : n ≤ length xs) where
+-- a run of an APS's numbers, copied to the front
+module _ {sliceMap sliceParams : List ℕ} {bank : List ℤ} {k : ℕ} {run : ApsRun} {xs ys : List ℤ}
+    (P : FromAps sliceMap sliceParams bank k run xs ys) (room : run .count ≤ length xs) where
   -- number j of them is the APS's number p
-  from-aps : (j p : ℕ) → j < n → first + j ≡ p → getD ys j (pos 0) ≡ getD bank (752 * sliceNumber sliceMap sliceParams k name + p) (pos 0)
+  from-aps : (j p : ℕ) → j < run .count → run .first + j ≡ p
+      → getD ys j (pos 0) ≡ getD bank (752 * sliceNumber sliceMap sliceParams k (run .name) + p) (pos 0)
   unfolding copiedFrom
   from-aps j p h e =
-      fill-in (P .filled) j (omega arith) (in-run 0 n j (omega arith)) ∙ ap (λ (m : ℕ). getD bank m (pos 0)) (omega arith)
+      fill-in (P .filled) j (omega arith) (in-run 0 (run .count) j (omega arith)) ∙ ap (λ (m : ℕ). getD bank m (pos 0)) (omega arith)
 
   -- number j of them is the number p of the APS of the input i
   from-input : {i : Input} {c : Ctb} {ctbParams : List ℕ} → TablesGiven i c sliceMap sliceParams bank ctbParams k
-      → (j p : ℕ) → j < n → first + j ≡ p → getD ys j (pos 0) ≡ bankNumber i (sliceParam i c name) p
-  from-input t j p h e = rw (slice-number t name, bank-number t) (from-aps j p h e)
+      → (j p : ℕ) → j < run .count → run .first + j ≡ p → getD ys j (pos 0) ≡ bankNumber i (sliceParam i c (run .name)) p
+  from-input t j p h e = rw (slice-number t (run .name), bank-number t) (from-aps j p h e)
 
 module _ {sliceMap sliceParams ctbParams : List ℕ} {bank : List ℤ} {k : ℕ} (T : CtbTables sliceMap sliceParams bank ctbParams k)
     {xs ys : List ℤ} (room : length xs ≡ 600) where
   -- an alternative of the slice's chroma APS
-  module _ {component alternative : ℕ} (is : component ≤ 1) (v : alternative ≡ ctbNumber ctbParams k (4 + component))
-      (P : FromAps sliceMap sliceParams bank k 8 (600 + 12 * alternative) 12 xs ys) where
-    few : alternative ≤ 7
-    few = rw v (T .alternatives component is)
-
-    chroma-coefficients : (j : ℕ) → j < 6 → CoeffRange (getD ys j (pos 0))
+  module _ {component : ℕ} (is : component ≤ 1)
+      (P : FromAps sliceMap sliceParams bank k (chromaRun (ctbNumber ctbParams k (4 + component))) xs ys) where
+    pub chroma-coefficients : (j : ℕ) → j < 6 → CoeffRange (getD ys j (pos 0))
     chroma-coefficients j h =
         rw (from-aps P (omega arith) j _ (omega arith) refl)
-        (chroma-coefficient (T .slice .bankNumbers) _ alternative j few h)
+        (chroma-coefficient (T .slice .bankNumbers) _ _ j (T .alternatives component is) h)
 
-    chroma-clips : (j : ℕ) → j < 6 → ClipRange (getD ys (6 + j) (pos 0))
+    pub chroma-clips : (j : ℕ) → j < 6 → ClipRange (getD ys (6 + j) (pos 0))
     chroma-clips j h =
         rw (from-aps P (omega arith) (6 + j) _ (omega arith) refl)
-        (chroma-clip (T .slice .bankNumbers) _ alternative (6 + j) few (omega arith) (omega arith))
+        (chroma-clip (T .slice .bankNumbers) _ _ (6 + j) (T .alternatives component is) (omega arith) (omega arith))
 
-    chroma-filter : (i : Input) (c : Ctb) → TablesGiven i c sliceMap sliceParams bank ctbParams k → ChromaFilter i c component ys
+    pub chroma-filter : (i : Input) (c : Ctb) → TablesGiven i c sliceMap sliceParams bank ctbParams k → ChromaFilter i c component ys
     chroma-filter i c t = record {
-      coefficients = λ j h. rw (own-number t (4 + component), ← v) (from-input P (omega arith) t j _ (omega arith) refl);
-      clips = λ j h. rw (own-number t (4 + component), ← v) (from-input P (omega arith) t (6 + j) _ (omega arith) (omega arith));
+      coefficients = λ j h. rw (own-number t (4 + component)) (from-input P (omega arith) t j _ (omega arith) refl);
+      clips = λ j h. rw (own-number t (4 + component)) (from-input P (omega arith) t (6 + j) _ (omega arith) (omega arith));
     }
 
-    pub chroma-loaded : ((j : ℕ) → j < 6 → CoeffRange (getD ys j (pos 0))) × ((j : ℕ) → j < 6 → ClipRange (getD ys (6 + j) (pos 0)))
-        × ((i : Input) (c : Ctb) → TablesGiven i c sliceMap sliceParams bank ctbParams k → ChromaFilter i c component ys)
-    chroma-loaded = (chroma-coefficients, chroma-clips, chroma-filter)
-
   -- a filter of the slice's cross-component APS; what is not written is 0
-  module _ {component index : ℕ} (is : component ≤ 1) (v : index ≡ ctbNumber ctbParams k (6 + component)) (on : 0 < index)
+  module _ {component : ℕ} (is : component ≤ 1) (on : 0 < ctbNumber ctbParams k (6 + component))
       (empty : (j : ℕ) → getD xs j (pos 0) ≡ pos 0)
-      (P : FromAps sliceMap sliceParams bank k (9 + component) (696 + 28 * component + 7 * (index - 1)) 7 xs ys) where
-    few-filters : index ≤ 4
-    few-filters = rw v (T .crossIndices component is)
-
+      (P : FromAps sliceMap sliceParams bank k (crossRun component (ctbNumber ctbParams k (6 + component))) xs ys) where
     rest-zero : (j : ℕ) → 7 ≤ j → getD ys j (pos 0) ≡ pos 0
     rest-zero j h =
         ⊎-elim (λ l. fill-out (P .filled) j (omega arith) (never _ (λ t. let z = run-facts 0 7 j t in omega arith)) ∙ empty j)
         (λ l. List·getD-eq-default ys (pos 0) {n = j} (omega (arith, P .filled .len))) (order j 600)
 
-    cross-coefficients : (j : ℕ) → CoeffRange (getD ys j (pos 0))
+    pub cross-coefficients : (j : ℕ) → CoeffRange (getD ys j (pos 0))
     cross-coefficients j =
         ⊎-elim
         (λ l.
-        rw (from-aps P (omega arith) j _ l refl) (cross-coefficient (T .slice .bankNumbers) _ _ (omega arith) (omega (arith, few-filters))))
+        rw (from-aps P (omega arith) j _ l refl)
+        (cross-coefficient (T .slice .bankNumbers) _ _ (omega arith) (omega (arith, T .crossIndices component is))))
         (λ l. rw (rest-zero j l) (omega arith)) (order j 7)
 
-    cross-filter : (i : Input) (c : Ctb) → TablesGiven i c sliceMap sliceParams bank ctbParams k
+    pub cross-filter : (i : Input) (c : Ctb) → TablesGiven i c sliceMap sliceParams bank ctbParams k
         → (j : ℕ) → j < 7 → getD ys j (pos 0) ≡ crossCoeff i (crossAps i c component) component (crossIndex i c component - 1) j
-    cross-filter i c t j h = rw (own-number t (6 + component), ← v) (from-input P (omega arith) t j _ h refl)
-
-    pub cross-loaded : ((j : ℕ) → CoeffRange (getD ys j (pos 0)))
-        × ((i : Input) (c : Ctb) → TablesGiven i c sliceMap sliceParams bank ctbParams k
-        → (j : ℕ) → j < 7 → getD ys j (pos 0) ≡ crossCoeff i (crossAps i c component) component (crossIndex i c component - 1) j)
-    cross-loaded = (cross-coefficients, cross-filter)
+    cross-filter i c t j h = rw (own-number t (6 + component)) (from-input P (omega arith) t j _ h refl)
 
   -- the filters of one of the slice's luma APSs
   module _ {set : ℕ} (v : set ≡ ctbNumber ctbParams k 3) (late : 16 ≤ set)
-      (P : FromAps sliceMap sliceParams bank k (1 + (set - 16)) 0 600 xs ys) where
+      (P : FromAps sliceMap sliceParams bank k (record { name = 1 + (set - 16); first = 0; count = 600 }) xs ys) where
     pub aps-numbers : FilterNumbers ys
     aps-numbers = record {
       count = P .filled .len ∙ room;

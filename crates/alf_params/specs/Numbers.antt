@@ -1,22 +1,41 @@
 -- The numbers of a filter, one by one. Assumes nothing.
 use mathlib.Core.Bool.{cond}
 use mathlib.Core.List.{List}
-use Prim.Native.Nat.{ℕ, _+_, _-_, _*_, _/_, _%_, _^_}
+use Prim.Native.Nat.{ℕ, _+_, _-_, _*_, _/_, _%_, _^_, _≤_, _<_}
 use lib.Dec.{ltb}
 use lib.IntN.{ℤ, pos}
 use lib.ListN.{getD}
 use Rattle.alf_lists.specs.Regions.{between}
 use Rattle.alf_lists.specs.Filled.{Filled}
+use Rattle.alf_params.specs.declared.filters.ApsRun.{ApsRun}
 use Rattle.alf_params.specs.Tables.{sliceNumber}
 
 -- a run of a table from index `from` on, put to the indices from `to` on
 unfoldable pub copiedFrom : List ℤ → ℕ → ℕ → ℕ → ℤ
 copiedFrom table from to k = getD table (from + (k - to)) (pos 0)
 
--- the first n numbers are those of an APS from its number `first` on, and the others are as they were; which APS, number `name` of the
--- slice of the CTB at address k says
-pub record FromAps (sliceMap sliceParams : List ℕ) (bank : List ℤ) (k name first n : ℕ) (old new : List ℤ) : Type 0 where
-  pub filled : Filled (pos 0) old (between 0 n) (copiedFrom bank (752 * sliceNumber sliceMap sliceParams k name + first) 0) new
+-- ---- a run of an APS's numbers
+
+-- it lies in an APS, a slice has the number that says which, and a CTB's filters have room for it
+pub record RunInAps (r : ApsRun) : Type 0 where
+  pub named : r .name < 11
+  pub inside : r .first + r .count ≤ 752
+  pub room : r .count ≤ 600
+
+-- the first numbers are the run's, and the others are as they were; k is the address of a CTB, whose slice says which APS
+pub record FromAps (sliceMap sliceParams : List ℕ) (bank : List ℤ) (k : ℕ) (r : ApsRun) (old new : List ℤ) : Type 0 where
+  pub filled : Filled (pos 0) old (between 0 (r .count))
+      (copiedFrom bank (752 * sliceNumber sliceMap sliceParams k (r .name) + r .first) 0) new
+
+-- an alternative of the chroma filter: 6 coefficients and 6 clips
+abbrev pub chromaRun : ℕ → ApsRun
+chromaRun alternative = record { name = 8; first = 600 + 12 * alternative; count = 12 }
+
+-- a cross-component filter of a component, by its index, which counts from 1: 7 coefficients, four filters for Cb and then four for Cr
+abbrev pub crossRun : ℕ → ℕ → ApsRun
+crossRun component index = record { name = 9 + component; first = 696 + 28 * component + 7 * (index - 1); count = 7 }
+
+-- ---- a fixed set
 
 -- the fixed set's filters in the form of an APS: 24 numbers a class, 12 fixed coefficients and 12 clips that are 2^BitDepth
 unfoldable pub fixedNumber : ℕ → ℕ → List ℤ → List ℕ → ℕ → ℤ

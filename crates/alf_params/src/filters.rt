@@ -1,17 +1,15 @@
 // The numbers of the filter of the CTB at address k, taken from the tables.
 ghost use mathlib.Core.Path.{_≡_};
-ghost use Prim.Native.Nat.{ℕ, _+_, _-_, _*_, _^_, _≤_, _<_};
+ghost use Prim.Native.Nat.{ℕ, _+_, _*_, _^_, _≤_, _<_};
 ghost use lib.IntN.{pos, natAbs};
 ghost use lib.ListN.{length, getD};
 ghost use Rattle.alf_spec.specs.declared.Ctb.{Ctb};
 ghost use Rattle.alf_spec.specs.Input.{Input};
-ghost use Rattle.alf_spec.specs.Parameters.{crossAps, crossIndex, crossCoeff};
-ghost use Rattle.alf_math.specs.Integers.{CoeffRange, ClipRange};
 ghost use Rattle.alf_lists.specs.Regions.{between};
 ghost use Rattle.alf_lists.specs.Filled.{Filled};
-ghost use Rattle.alf_params.specs.Filters.{LumaFilters, FilterNumbers, ChromaFilter};
+ghost use Rattle.alf_params.specs.Filters.{LumaFilters, FilterNumbers};
 ghost use Rattle.alf_params.specs.Tables.{ctbNumber, SliceTables, CtbTables, FixedTables, TablesGiven, FixedOf};
-ghost use Rattle.alf_params.specs.Numbers.{copiedFrom, FromAps, fixedNumber};
+ghost use Rattle.alf_params.specs.Numbers.{copiedFrom, RunInAps, FromAps, chromaRun, crossRun, fixedNumber};
 use crate::entries::ctb_number;
 use crate::entries::slice_number;
 use alf_lists::fill;
@@ -67,25 +65,28 @@ fn load_fixed(depth: u32, set: usize, fixed_filters: &[i16], fixed_map: &[u8], f
     }
 }
 
-// n numbers of an APS, from its number `first` on, put to the front. Of the eleven numbers of the slice of the CTB at address k, number
-// `name` says which APS.
-fn load_from_aps(
-    name: usize,
-    first: usize,
-    n: usize,
+// A run of an APS's numbers. Of the eleven numbers of a slice, number `name` says which APS.
+pub struct ApsRun {
+    pub name: usize,
+    pub first: usize,
+    pub count: usize,
+}
+
+// The run's numbers, put to the front. The slice is that of the CTB at address k.
+pub fn load_from_aps(
+    run: ApsRun,
     k: usize,
     slice_map: &[u8],
     slice_params: &[u8],
     bank: &[i16],
     filters: &mut [i16],
 )
-    requires { ⌜ (SliceTables (now «slice_map») (now «slice_params») (now bank) k) × (name < 11) × (first + n ≤ 752)
-        × (n ≤ length (now filters)) ⌝ }
-    ensures { λ _. ⌜ FromAps (now («slice_map» .entry)) (now («slice_params» .entry)) (now (bank .entry)) k name first n
+    requires { ⌜ (SliceTables (now «slice_map») (now «slice_params») (now bank) k) × (RunInAps run) × (length (now filters) ≡ 600) ⌝ }
+    ensures { λ _. ⌜ FromAps (now («slice_map» .entry)) (now («slice_params» .entry)) (now (bank .entry)) k run
         (now (filters .entry)) (now (filters .exit)) ⌝ }
 {
-    let aps = slice_number(slice_map, slice_params, k, name) as usize;
-    copy_numbers(bank, APS * aps + first, n, filters, 0);
+    let aps = slice_number(slice_map, slice_params, k, run.name) as usize;
+    copy_numbers(bank, APS * aps + run.first, run.count, filters, 0);
 }
 
 // The 25 luma filters: those of a fixed set, or of one of the slice's luma APSs.
@@ -110,62 +111,39 @@ pub fn load_luma(
     if set < FIXED_SETS {
         load_fixed(depth, set, fixed_filters, fixed_map, filters);
     } else {
-        let name = 1 + (set - FIXED_SETS);
-        load_from_aps(name, 0, LUMA, k, slice_map, slice_params, bank, filters);
+        let run = ApsRun {
+            name: 1 + (set - FIXED_SETS),
+            first: 0,
+            count: LUMA,
+        };
+        load_from_aps(run, k, slice_map, slice_params, bank, filters);
     }
 }
 
-// The alternative of a chroma component: 6 coefficients and 6 clips.
-pub fn load_chroma(
-    component: u8,
-    k: usize,
-    slice_map: &[u8],
-    slice_params: &[u8],
-    bank: &[i16],
-    ctb_params: &[u8],
-    filters: &mut [i16],
-)
-    requires { ⌜ (component ≤ 1) × (CtbTables (now «slice_map») (now «slice_params») (now bank) (now «ctb_params») k)
-        × (length (now filters) ≡ 600) ⌝ }
-    ensures { λ _. ⌜ ((j : ℕ) → j < 6 → CoeffRange (getD (now (filters .exit)) j (pos 0)))
-        × ((j : ℕ) → j < 6 → ClipRange (getD (now (filters .exit)) (6 + j) (pos 0))) × ((i : Input) (c : Ctb)
-        → TablesGiven i c (now («slice_map» .entry)) (now («slice_params» .entry)) (now (bank .entry)) (now («ctb_params» .entry)) k
-        → ChromaFilter i c component (now (filters .exit))) ⌝ }
+// Where the alternative of a chroma component stands: 6 coefficients and 6 clips.
+pub fn chroma_run(component: u8, k: usize, ctb_params: &[u8]) -> ApsRun
+    requires { ⌜ (component ≤ 1) × (8 * k + 8 ≤ length (now «ctb_params»)) × (ctbNumber (now «ctb_params») k (4 + component) ≤ 7) ⌝ }
+    ensures { λ r. ⌜ (r ≡ chromaRun (ctbNumber (now («ctb_params» .entry)) k (4 + component))) × (RunInAps r) ⌝ }
 {
     let alternative = ctb_number(ctb_params, k, 4 + component as usize) as usize;
-    let first = LUMA + 12 * alternative;
-    load_from_aps(8, first, 12, k, slice_map, slice_params, bank, filters);
+    ApsRun {
+        name: 8,
+        first: LUMA + 12 * alternative,
+        count: 12,
+    }
 }
 
-// The cross-component filter of a chroma component, which has 7 coefficients alone. Index 1 is the first filter: 0 is off.
-pub fn load_cross(
-    component: u8,
-    k: usize,
-    slice_map: &[u8],
-    slice_params: &[u8],
-    bank: &[i16],
-    ctb_params: &[u8],
-    filters: &mut [i16],
-)
-    requires { ⌜ (component ≤ 1) × (CtbTables (now «slice_map») (now «slice_params») (now bank) (now «ctb_params») k)
-        × (0 < ctbNumber (now «ctb_params») k (6 + component)) × (length (now filters) ≡ 600)
-        × ((j : ℕ) → getD (now filters) j (pos 0) ≡ pos 0) ⌝ }
-    ensures { λ _. ⌜ ((j : ℕ) → CoeffRange (getD (now (filters .exit)) j (pos 0))) × ((i : Input) (c : Ctb)
-        → TablesGiven i c (now («slice_map» .entry)) (now («slice_params» .entry)) (now (bank .entry)) (now («ctb_params» .entry)) k
-        → (j : ℕ) → j < 7 → getD (now (filters .exit)) j (pos 0) ≡ crossCoeff i (crossAps i c component) component
-        (crossIndex i c component - 1) j) ⌝ }
+// Where the cross-component filter of a chroma component stands, which has 7 coefficients alone. Index 1 is the first filter: 0 is off.
+pub fn cross_run(component: u8, k: usize, ctb_params: &[u8]) -> ApsRun
+    requires { ⌜ (component ≤ 1) × (8 * k + 8 ≤ length (now «ctb_params»)) × (0 < ctbNumber (now «ctb_params») k (6 + component))
+        × (ctbNumber (now «ctb_params») k (6 + component) ≤ 4) ⌝ }
+    ensures { λ r. ⌜ (r ≡ crossRun component (ctbNumber (now («ctb_params» .entry)) k (6 + component))) × (RunInAps r) ⌝ }
 {
     let component = component as usize;
     let index = ctb_number(ctb_params, k, 6 + component) as usize;
-    let first = CROSS + 28 * component + 7 * (index - 1);
-    load_from_aps(
-        9 + component,
-        first,
-        7,
-        k,
-        slice_map,
-        slice_params,
-        bank,
-        filters,
-    );
+    ApsRun {
+        name: 9 + component,
+        first: CROSS + 28 * component + 7 * (index - 1),
+        count: 7,
+    }
 }

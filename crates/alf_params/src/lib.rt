@@ -3,8 +3,10 @@ mod entries;
 mod filters;
 mod switches;
 
-pub use filters::load_chroma;
-pub use filters::load_cross;
+pub use filters::ApsRun;
+pub use filters::chroma_run;
+pub use filters::cross_run;
+pub use filters::load_from_aps;
 pub use filters::load_luma;
 pub use switches::chroma_on;
 pub use switches::cross_on;

@@ -1,6 +1,5 @@
 -- `alf_ctb::tables::load` meets its contract. Assumes nothing.
 use mathlib.Core.Path.{subst}
-use native.Mathlib.Omega.{arith}
 use borrow.Author.Needs.{needs}
 use Rattle.alf_spec.specs.declared.Filter.{Filter}
 use Rattle.alf_ctb.specs.Tables.{ComponentOf, FixedGiven, Switched}
@@ -18,37 +17,43 @@ load-luma-requires c κs =
       s .pre .4,
     )
 
-load-chroma-requires : tie.Need-load-chroma-requires
-load-chroma-requires c κs =
+chroma-run-requires : tie.Need-chroma-run-requires
+chroma-run-requires c κs =
     let s : tie.Start = search needs in
-    (subst ComponentOf (c .before .before .filter .given .1) (s .pre .0), s .pre .1, s .pre .4)
+    let is = subst ComponentOf (c .before .filter .given .1) (s .pre .0) in
+    (is, s .pre .1 .ctbNumbers, s .pre .1 .alternatives _ is)
 
-load-cross-requires : tie.Need-load-cross-requires
-load-cross-requires c κs =
+cross-run-requires : tie.Need-cross-run-requires
+cross-run-requires c κs =
     let s : tie.Start = search needs in
-    let e = c .before .before .filter2 .given .1 in (
-      subst ComponentOf e (s .pre .0),
-      s .pre .1,
+    let e = c .before .filter2 .given .1 in
+    let is = subst ComponentOf e (s .pre .0) in (
+      is,
+      s .pre .1 .ctbNumbers,
       subst (λ (f : Filter). Switched f (s .args .ctb-params .now) (s .args .k)) e (s .pre .3),
-      s .pre .4,
-      s .pre .5,
+      s .pre .1 .crossIndices _ is,
     )
+
+returns-2 : tie.Need-returns-2
+returns-2 c =
+    let s : tie.Start = search needs in
+    let told : tie.After-filter = search needs in
+    let found : tie.After-chroma-run = search needs in
+    chroma-loaded _ _ _ _ _ _ _ _ _ _ (s .pre .1) (s .pre .4) (c .before .load-from-aps .ensures) (s .pre .0)
+    (told .filter .given .1) (found .chroma-run .ensures .0)
+
+returns-3 : tie.Need-returns-3
+returns-3 c =
+    let s : tie.Start = search needs in
+    let told : tie.After-filter2 = search needs in
+    let found : tie.After-cross-run = search needs in
+    cross-loaded _ _ _ _ _ _ _ _ _ _ (s .pre .1) (s .pre .4) (c .before .load-from-aps2 .ensures) (s .pre .0)
+    (told .filter2 .given .1) (found .cross-run .ensures .0) (s .pre .3) (s .pre .5)
 
 pub load-spec : {M : Type 1} → statement M
 load-spec =
     tie.close
-    (tie.spec (λ c. search needs) load-luma-requires (λ c. search needs) load-chroma-requires (λ c. search needs) load-cross-requires
-    (λ c. search needs)
+    (tie.spec (λ c. search needs) load-luma-requires (λ c. search needs) chroma-run-requires (λ c κs. search needs) (λ c. search needs)
+    cross-run-requires (λ c κs. search needs) (λ c. search needs)
     (λ c. luma-loaded _ _ _ _ _ _ _ _ _ _ (c .before .before .before .enum-told .given .1) (c .before .load-luma .ensures))
-    (λ c. search needs)
-    (λ c.
-    let s : tie.Start = search needs in
-    let told : tie.After-filter = search needs in
-    chroma-loaded _ _ _ _ _ _ _ _ _ _ (told .filter .given .1) (omega (arith, c .filters2 .given, s .pre .4))
-    (c .before .load-chroma .ensures))
-    (λ c. search needs)
-    (λ c.
-    let s : tie.Start = search needs in
-    let told : tie.After-filter2 = search needs in
-    cross-loaded _ _ _ _ _ _ _ _ _ _ (told .filter2 .given .1) (omega (arith, c .filters3 .given, s .pre .4))
-    (c .before .load-cross .ensures)))
+    (λ c. search needs) returns-2 (λ c. search needs) returns-3)

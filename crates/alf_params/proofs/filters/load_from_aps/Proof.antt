@@ -12,7 +12,11 @@ copy-numbers-requires c κs =
     let slice : tie.After-slice-number = search needs in
     let T = start .pre .0 in
     let few : slice .slice-number .result ≤ 7 = rw (slice .slice-number .ensures) (T .sliceRange _) in
-    (omega (arith, few, T .bankNumbers .count, start .pre .2), omega (arith, start .pre .3), bank-small (T .bankNumbers))
+    let run = start .pre .1 in (
+      omega (arith, few, T .bankNumbers .count, run .inside),
+      omega (arith, run .room, start .pre .2),
+      bank-small (T .bankNumbers),
+    )
 
 returns : tie.Need-returns
 returns c =
@@ -24,6 +28,6 @@ pub load-from-aps-spec : {M : Type 1} → statement M
 load-from-aps-spec =
     tie.close
     (tie.spec
-    (λ c κs. let T = c .before .before .pre .0 in (T .inMap, T .sliceNumbers, c .before .before .pre .1))
+    (λ c κs. let T = c .before .before .pre .0 in (T .inMap, T .sliceNumbers, c .before .before .pre .1 .named))
     (λ c. search needs) (λ c. search needs) (λ c. search needs)
     copy-numbers-requires (λ c. search needs) returns)

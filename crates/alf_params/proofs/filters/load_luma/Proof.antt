@@ -11,9 +11,12 @@ load-from-aps-requires c κs =
     let own : tie.After-ctb-number = search needs in
     let T = start .pre .0 in (
       T .slice,
-      omega (arith, own .ctb-number .ensures, T .lumaSets, T .slice .sliceRange 0),
-      omega arith,
-      omega (arith, start .pre .2),
+      record {
+        named = omega (arith, own .ctb-number .ensures, T .lumaSets, T .slice .sliceRange 0);
+        inside = omega arith;
+        room = omega arith;
+      },
+      start .pre .2,
     )
 
 returns : tie.Need-returns
