@@ -67,8 +67,8 @@ by-axis true false c d true = refl
 by-axis true false c d false = refl
 by-axis false b c d e = sym (and-false (e && (b && d)))
 
--- past a corner across which filtering is side, a read is held to the piece's own columns: what lies past them moves to the outermost
--- column, and the rest stays
+-- past a corner across which filtering is disabled, a read is held to the piece's own columns: what lies past them moves to the column at
+-- that end, and the rest stays
 module _ (n : ℕ) (piece : Piece) (numbers : PieceIn n piece) (p : ℕ) (ends : Side → ℕ)
     (edge : (d : Side) → pastPiece d piece (held (piece .lowest) (piece .limit) p) ≡ true → ends d ≡ outer d piece) where
   abbrev u : ℕ

@@ -82,12 +82,12 @@ module _ (l : Layout) (ok : AcceptedLayout l) (columnRatio rowRatio line : ℕ) 
     unfolding planeOf
     row-in = ctb-below (plane .rows) (regular-rows l ok columnRatio rowRatio line) _ (lt-own rowRatio _ _ (row-below plane i h))
 
-    -- it lies in one of the picture's CTBs
+    -- the sample lies in one of the picture's CTBs
     pub every-ctb : beforeCtb l (planeOf l columnRatio rowRatio line) (ctbTotal l) i ≡ true
     unfolding beforeCtb
     every-ctb = lt-ltb _ _ (address-below l (ctbAt plane (columnOf plane i) (rowOf plane i)) column-in row-in)
 
-    -- and in one of those for which a test passes, if it passes for its own
+    -- the sample lies in one of the CTBs for which a test passes, if the test passes for its own CTB
     pub every-ctb-if : (test : ℕ → Bool) → let g = planeOf l columnRatio rowRatio line in
         beforeCtbIf l g test (ctbTotal l) i ≡ inCtbIf l g test i
     unfolding beforeCtbIf inCtbIf
@@ -153,7 +153,7 @@ module _ (l : Layout) (ok : AcceptedLayout l) (columnRatio rowRatio line : ℕ) 
         → ys ≡ tabulate (planeLength plane) v
     all-painted P all = rw size at (paint-all P (λ i h. rw (all ∙ grid-total l g grid) (every-ctb i (omega (arith, size)))))
 
--- the CTBs before the first, and before the next
+-- no CTB lies before the first; before the next lie those before this one, and this one
 pub no-ctb : (l : Layout) (g : Plane) (i : ℕ) → beforeCtb l g 0 i ≡ false
 unfolding beforeCtb
 no-ctb l g i = never (ltb (addressAt l g i) 0) (λ t. let h = ltb-true (addressAt l g i) 0 t in omega arith)
@@ -177,12 +177,12 @@ and-or false a true c e = e refl ∙ sym (and-true c)
 and-or false a false c e = sym (and-false c)
 
 module _ (l : Layout) (g : Plane) (test : ℕ → Bool) (v : ℕ → ℕ) where
-  -- before the first
+  -- before the first CTB nothing is written
   pub ctbs-none : {xs : List ℕ} → Paint xs (beforeCtbIf l g test 0) v xs
   unfolding beforeCtbIf
   ctbs-none = paint-none (λ i. rw (no-ctb l g i) (and-false (test (addressAt l g i))))
 
-  -- one more
+  -- one CTB more is written, if the test passes for it
   pub ctbs-next : (k : ℕ) {xs ys zs : List ℕ} → Paint xs (beforeCtbIf l g test k) v ys → zs ≡ painted ys (ofCtbIf l g test k) v
       → Paint xs (beforeCtbIf l g test (k + 1)) v zs
   unfolding beforeCtbIf ofCtbIf ofCtb

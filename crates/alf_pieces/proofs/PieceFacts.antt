@@ -23,7 +23,7 @@ use Rattle.alf_pieces.specs.declared.pieces.Piece.{Piece}
 use Rattle.alf_pieces.specs.Pieces.{WalkLine, ctbLimit, pieceEnd, pieceAt, Begins, PieceOf, PieceIn}
 use Rattle.alf_pieces.specs.Copies.{held}
 use Rattle.alf_pieces.proofs.PieceEnds.{Span, bound-at, span, start4, end4, next-begins}
-use Rattle.alf_pieces.proofs.PieceClips.{tip, outermost, AtTip, cut, uncut, at-tip, open-bound, Meets, at-end, open-end, far-end}
+use Rattle.alf_pieces.proofs.PieceClips.{tip, tipSample, AtTip, cut, uncut, at-tip, open-bound, Meets, at-end, open-end, far-end}
 use Rattle.alf_pieces.proofs.PieceClips.{meets}
 use Rattle.alf_pieces.proofs.PieceReads.{own-is, own-sum, own-most, reach-inside, clamped-same}
 
@@ -32,7 +32,7 @@ abbrev pub pastPiece : Side → Piece → ℕ → Bool
 pastPiece before p u = ltb u (p .start)
 pastPiece after p u = leb (p .end) u
 
--- the piece's outermost sample on that side
+-- the sample of a piece at its end on that side, in the plane's own samples
 abbrev pub outer : Side → Piece → ℕ
 outer before p = p .start
 outer after p = pred (p .end)
@@ -60,17 +60,17 @@ pub record Facts (a : Axis) (side : Side → ClipCause) (q : ℕ) (p : Piece) : 
   pub past : (x u : ℕ) → InPiece a p x u → (d : Side)
       → (pastCtb a d x (held (p .lowest) (p .limit) u) && isNone (clipPosition a (lumaPosition a x) side d)) ≡ pastPiece d p
       (held (p .lowest) (p .limit) u)
-  -- and the CTB's outermost sample is then the piece's
+  -- where a read goes past the piece on a side, the CTB ends there with the piece's last sample
   pub edge : (x u : ℕ) → InPiece a p x u → (d : Side) → pastPiece d p (held (p .lowest) (p .limit) u) ≡ true → ctbEnd a d x ≡ outer d p
 
 -- ---- past an end
 
--- reads stop at that end
+-- reads stop at the piece's end on that side
 abbrev Closed : Side → Piece → Type 0
 Closed before p = p .lowest ≡ p .start
 Closed after p = p .limit ≡ p .end
 
--- so that none is past it
+-- no read goes past the piece where reads stop at its end
 kept : (n : ℕ) (p : Piece) → PieceIn n p → (d : Side) → Closed d p → (u : ℕ) → pastPiece d p (held (p .lowest) (p .limit) u) ≡ false
 kept n p i before c u = le-ltb (held (p .lowest) (p .limit) u) (p .start) (omega (arith, i .filled, i .high))
 kept n p i after c u = lt-leb (p .end) (held (p .lowest) (p .limit) u) (omega (arith, i .filled))
@@ -86,9 +86,9 @@ module _ (a : Axis) (ok : Regular a) (walk : WalkLine (a .line)) (ratio : Ratio 
   abbrev p : Piece
   p = pieceAt a side q s
 
-  -- the clip position of its outermost sample on that side
+  -- the clip position of the piece's sample at its end on that side
   abbrev outer-clip : Side → Option ℕ
-  outer-clip d = clipPosition a (outermost d lo hi) side d
+  outer-clip d = clipPosition a (tipSample d lo hi) side d
 
   -- its ends are whole samples of the plane
   start-even : lo % 2 ≡ 0

@@ -50,7 +50,7 @@ held-same n l m u h k =
 -- ---- the sample x, in luma positions, and its neighbour u
 
 module _ (a : Axis) (ratio : Ratio (a .ratio)) (x u : ℕ) where
-  -- before the piece, which begins at s
+  -- reads before the piece, which begins at s
   low-same : (s : ℕ) (o o′ : Option ℕ) → Meets before (lumaPosition a s) x (lumaPosition a u) o o′ → lumaPosition a s ≤ x
       → max (lowest a o) u ≡ max (lowest a o′) u
   low-same s _ _ at-end h = refl
@@ -60,7 +60,7 @@ module _ (a : Axis) (ratio : Ratio (a .ratio)) (x u : ℕ) where
       let k = own-le (a .ratio) (lumaPosition a s) u l in
       omega arith
 
-  -- after it, where it ends at hi; w is the neighbour, clamped on the other side
+  -- reads after the piece, which ends at hi; w is the neighbour, clamped on the other side
   high-same : (hi w : ℕ) (o o′ : Option ℕ) → Meets after hi x (lumaPosition a u) o o′ → hi % 2 ≡ 0 → x < hi → hi / a .ratio ≤ samples a
       → (u < hi / a .ratio → w < hi / a .ratio)
       → min (pred (limit a o)) w ≡ min (pred (limit a o′)) w
@@ -81,7 +81,7 @@ module _ (a : Axis) (x u : ℕ) where
       (λ l. reach-less (lumaPosition a x) (lumaPosition a u) _ (mul-le-mul-right (a .ratio) (omega arith))
       (mul-le-mul-right (a .ratio) (omega arith)) r)
 
-  -- the piece from s to hi, by the clip positions of its outermost samples
+  -- the piece from s to hi, by the clip positions of its first and of its last sample
   pub clamped-same : Ratio (a .ratio) → (s hi : ℕ) (clip outer : Side → Option ℕ)
       → s ≤ x → lumaPosition a x < hi → hi % 2 ≡ 0 → lowest a (outer before) ≤ s → hi / a .ratio ≤ limit a (outer after)
       → limit a (outer after) ≤ samples a

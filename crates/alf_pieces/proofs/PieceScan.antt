@@ -3,18 +3,18 @@ use mathlib.Core.Path.{_≡_, refl, sym, _∙_}
 use mathlib.Core.Bool.{Bool, true, false, cond}
 use mathlib.Core.List.{List}
 use mathlib.Core.Option.{Option, some, none, Option·getD}
-use Prim.Native.Nat.{ℕ, suc, _+_, _-_, _*_, _/_, _≤_, _<_}
-use native.Mathlib.Nat.{div-one, div-eq-of-lt-le}
+use Prim.Native.Nat.{ℕ, suc, pred, _+_, _-_, _*_, _/_, _≤_, _<_}
+use native.Mathlib.Nat.{mul-one, div-one, div-eq-of-lt-le}
 use native.Mathlib.Omega.{arith}
-use Rattle.alf_spec.specs.Geometry.{after}
+use Rattle.alf_spec.specs.Geometry.{before, after}
 use Rattle.alf_spec.specs.Boundary.{clip, clipPosition}
 use Rattle.alf_spec.specs.Padding.{isNone, lowest, limit}
 use Rattle.alf_boundary.specs.declared.clips.CtbAxis.{CtbAxis}
 use Rattle.alf_boundary.specs.declared.clips.FoundClip.{FoundClip}
 use Rattle.alf_boundary.specs.Clips.{clipOf, positionOf, axisAlong, sidesAlong, InCtb}
-use Rattle.alf_pieces.specs.Pieces.{limitAlong, BlockAt, runEnd, pieceEnd}
+use Rattle.alf_pieces.specs.Pieces.{limitAlong, BlockAt, runEnd, pieceEnd, pieceAt}
 
--- a position of the CTB, from the block on
+-- a position u of the CTB in which a block begins at x, where u does not lie before x
 pub in-ctb : {a : CtbAxis} {x : ℕ} (u : ℕ) → BlockAt a x → x ≤ u → u < limitAlong a → InCtb a u
 in-ctb {a} u b low high =
     let from : a .place * a .ctb ≤ u = omega (arith, b .from) in
@@ -35,6 +35,17 @@ module _ (a : CtbAxis) (list : List ℕ) where
   pub limit-luma : (o : Option ℕ) → limit (axisAlong a list 1) o ≡ Option·getD o (a .size)
   limit-luma none = div-one (a .size)
   limit-luma (some e) = div-one e
+
+  -- the piece that begins at x, from the clips before its first sample and after its last
+  pub piece-is : {end last low high : ℕ} (x : ℕ) (lower upper : FoundClip)
+      → end ≡ pieceEnd (axisAlong a list 1) (sidesAlong a) (a .place) x → last ≡ pred end
+      → clipOf lower ≡ clip (axisAlong a list 1) x (sidesAlong a) before
+      → clipOf upper ≡ clip (axisAlong a list 1) last (sidesAlong a) after
+      → low ≡ Option·getD (positionOf lower) 0 → high ≡ Option·getD (positionOf upper) (a .size)
+      → record { start = x; end = end; lowest = low; limit = high } ≡ pieceAt (axisAlong a list 1) (sidesAlong a) (a .place) x
+  unfolding pieceAt clipPosition
+  piece-is x lower upper stop at-last below above low high =
+      rw (mul-one, div-one, lowest-luma, limit-luma, ← stop, ← at-last, ← below, ← above, low, high)
 
 module _ (a : CtbAxis) (list : List ℕ) where
   -- where the blocks from `end` on lead, of which there are that many in the CTB

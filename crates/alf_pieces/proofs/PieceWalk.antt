@@ -75,20 +75,20 @@ module _ {p : Picture} {g : Grid} (ok : AcceptedPicture p g) {list : List ℕ} w
 
 -- ---- the loop
 
--- it stands at x: where a piece begins, or where the CTB ends
+-- the loop stands at x: where a piece begins, or where the CTB ends
 pub record Walk (a : CtbAxis) (list : List ℕ) (x : ℕ) : Type 0 where
   pub from : a .place * a .ctb ≤ x
   pub upto : x ≤ limitAlong a
   pub begins : x < limitAlong a → Begins (axisAlong a list 1) (a .place) x
 
--- what a turn of it finds: the piece p that begins at x, of whole blocks, and where the loop stands behind it
+-- what a turn of the loop finds: the piece p that begins at x, of whole blocks, and where the loop stands behind it
 pub record Turn (a : CtbAxis) (list : List ℕ) (x : ℕ) (p : Piece) : Type 0 where
   pub start : p .start ≡ x
   pub piece : PieceOf (axisAlong a list 1) (sidesAlong a) (a .place) p
   pub blocks : BlockPiece (a .size) p
   pub next : Walk a list (p .end)
 
--- in the luma plane, a piece of whole blocks
+-- a piece of the luma plane has whole blocks
 pub block-piece : {n ctb : ℕ} {list : List ℕ} {line : ℕ} {side : Side → ClipCause} {q : ℕ} {p : Piece}
     → Facts (axisOf n ctb list line 1) side q p → BlockPiece n p
 block-piece {n = n} {p = p} f =
@@ -103,7 +103,7 @@ module _ {a : CtbAxis} {list : List ℕ} (along : Along a list) {b : CtbAxis} (s
       subst (λ (b : CtbAxis). (b .ctb ≤ 128) × (b .place * b .ctb ≤ 65535)) (sym same)
       (along .ctb, omega (arith, along .begins, along .size))
 
-  -- it begins where the CTB does
+  -- the loop begins where the CTB does
   pub walk-first : {x : ℕ} → x ≡ b .place * b .ctb → x ≡ a .place * a .ctb
   walk-first e = e ∙ ap (λ (b : CtbAxis). b .place * b .ctb) same
 
@@ -165,7 +165,7 @@ module _ {a : CtbAxis} {list : List ℕ} (along : Along a list) {b : CtbAxis} (s
 pub turn-less : {a : CtbAxis} {list : List ℕ} {x end : ℕ} {p : Piece} → Turn a list x p → x < end → end - p .end < end - x
 turn-less t h = omega (arith, t .start, t .blocks .numbers .filled)
 
--- ---- what it has written
+-- ---- what the loop has written
 
 -- a part of a plane for every two places along an axis, from the first up to the second
 pub record Strips (part : ℕ → ℕ → ℕ → Bool) : Type 0 where
@@ -199,7 +199,7 @@ div-order zero a b h = simp div-zero (omega arith)
 div-order (suc r) a b h =
     le-div-iff-mul-le {k = suc r} {x = a / suc r} (omega arith) .1 (omega (arith, div-mul-le-self a (suc r)))
 
--- on by a turn's piece
+-- a turn writes its piece beside what is written
 pub written-turn : {a : CtbAxis} {list : List ℕ} {x : ℕ} {p : Piece} {part : ℕ → ℕ → ℕ → Bool} → Strips part → (ratio : ℕ)
     → Walk a list x → Turn a list x p → {v : ℕ → ℕ} {old ys zs : List ℕ}
     → Paint old (part (a .place * a .ctb / ratio) (x / ratio)) v ys → zs ≡ painted ys (part (p .start / ratio) (p .end / ratio)) v

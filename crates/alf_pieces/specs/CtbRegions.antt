@@ -10,22 +10,22 @@ module _ (l : Layout) (g : Plane) where
   abbrev pub addressAt : ℕ → ℕ
   addressAt i = address l (ctbAt g (columnOf g i) (rowOf g i))
 
-  -- it is k
+  -- the sample at index i lies in the CTB at address k
   unfoldable pub ofCtb : ℕ → ℕ → Bool
   ofCtb k i = eqb (addressAt i) k
 
-  -- it is below k
+  -- the sample at index i lies in a CTB with an address below k
   unfoldable pub beforeCtb : ℕ → ℕ → Bool
   beforeCtb k i = ltb (addressAt i) k
 
-  -- the test of that address passes
+  -- the test passes for the CTB in which the sample at index i lies
   unfoldable pub inCtbIf : (ℕ → Bool) → ℕ → Bool
   inCtbIf test i = test (addressAt i)
 
-  -- it is k, for which the test passes
+  -- the sample at index i lies in the CTB at address k, for which the test passes
   unfoldable pub ofCtbIf : (ℕ → Bool) → ℕ → ℕ → Bool
   ofCtbIf test k i = test k && ofCtb k i
 
-  -- it is below k, and the test passes for it
+  -- the sample at index i lies in a CTB with an address below k, for which the test passes
   unfoldable pub beforeCtbIf : (ℕ → Bool) → ℕ → ℕ → Bool
   beforeCtbIf test k i = test (addressAt i) && beforeCtb k i

@@ -5,8 +5,8 @@ ghost use lib.ListN.{length};
 ghost use Rattle.alf_spec.specs.Lists.{painted};
 ghost use Rattle.alf_lists.specs.Regions.{between};
 ghost use Rattle.alf_pieces.specs.Pieces.{PieceIn};
-ghost use Rattle.alf_pieces.specs.Copies.{held as heldIn, extent as extentOf, pitch, copyLength, rowLowest, rowLimit, copyAt, runAt};
-ghost use Rattle.alf_pieces.specs.Copies.{rowAt};
+ghost use Rattle.alf_pieces.specs.Copies.{held as heldIn, extent as extentOf, copyLength, rowLowest, rowLimit, rowRange};
+ghost use Rattle.alf_pieces.specs.Copies.{copyAt, runAt, rowAt, RowRoom};
 use crate::pieces::Piece;
 use alf_spec::Sides;
 
@@ -77,48 +77,37 @@ pub fn copy_run(plane: &[u16], from: usize, n: usize, copy: &mut [u16], at: usiz
     }
 }
 
-// The margin on one side of a row of the copy: the 3 samples from its place i on. The row begins at `at`, the plane's row at `row`.
-fn copy_side(
-    plane: &[u16],
-    row: usize,
-    lowest: usize,
-    limit: usize,
-    start: usize,
-    copy: &mut [u16],
-    at: usize,
-    i: usize,
-)
-    requires { ⌜ (lowest < limit) × (row + limit ≤ length (now plane)) × (start ≤ limit) × (at + i + 3 ≤ length (now copy)) ⌝ }
-    ensures { λ _. ⌜ now (copy .exit) ≡ painted (now (copy .entry)) (between (at + i) 3)
-        (rowAt (now (plane .entry)) row lowest limit start at) ⌝ }
+// What a row of the copy holds: the plane's row that begins at index `row`, from 3 columns before column `start` on, where columns are held
+// to those from `lowest` to `limit`.
+pub struct RowRange {
+    pub row: usize,
+    pub start: usize,
+    pub lowest: usize,
+    pub limit: usize,
+}
+
+// The margin on one side of a row of the copy: the 3 samples from its place i on. The row begins at `at`.
+fn copy_side(plane: &[u16], r: RowRange, copy: &mut [u16], at: usize, i: usize)
+    requires { ⌜ (r .lowest < r .limit) × (r .row + r .limit ≤ length (now plane)) × (r .start ≤ r .limit)
+        × (at + i + 3 ≤ length (now copy)) ⌝ }
+    ensures { λ _. ⌜ now (copy .exit) ≡ painted (now (copy .entry)) (between (at + i) 3) (rowAt (now (plane .entry)) r at) ⌝ }
 {
     let mut k: usize = 0;
     while k < 3 {
-        let column = held(lowest, limit, position(start, i + k));
-        copy[at + i + k] = plane[row + column];
+        let column = held(r.lowest, r.limit, position(r.start, i + k));
+        copy[at + i + k] = plane[r.row + column];
         k += 1;
     }
 }
 
 // A row of the copy: the margin, n samples, the margin.
-fn copy_row(
-    plane: &[u16],
-    row: usize,
-    lowest: usize,
-    limit: usize,
-    start: usize,
-    n: usize,
-    copy: &mut [u16],
-    at: usize,
-)
-    requires { ⌜ (lowest ≤ start) × (0 < n) × (start + n ≤ limit) × (row + limit ≤ length (now plane))
-        × (at + (n + 6) ≤ length (now copy)) ⌝ }
-    ensures { λ _. ⌜ now (copy .exit) ≡ painted (now (copy .entry)) (between at (n + 6))
-        (rowAt (now (plane .entry)) row lowest limit start at) ⌝ }
+fn copy_row(plane: &[u16], r: RowRange, n: usize, copy: &mut [u16], at: usize)
+    requires { ⌜ (RowRoom r n (length (now plane))) × (at + (n + 6) ≤ length (now copy)) ⌝ }
+    ensures { λ _. ⌜ now (copy .exit) ≡ painted (now (copy .entry)) (between at (n + 6)) (rowAt (now (plane .entry)) r at) ⌝ }
 {
-    copy_side(plane, row, lowest, limit, start, copy, at, 0);
-    copy_run(plane, row + start, n, copy, at + 3);
-    copy_side(plane, row, lowest, limit, start, copy, at, n + 3);
+    copy_side(plane, r, copy, at, 0);
+    copy_run(plane, r.row + r.start, n, copy, at + 3);
+    copy_side(plane, r, copy, at, n + 3);
 }
 
 // The plane's row that stands in row j of the copy. A corner moves columns alone: the row past it stays.
@@ -133,35 +122,19 @@ fn row_of(rows: Piece, j: usize) -> usize
     )
 }
 
-// Row j of the copy of a piece. Past a corner it has its own range of columns.
-fn copy_row_of(
-    plane: &[u16],
-    width: usize,
-    columns: Piece,
-    rows: Piece,
-    sides: Sides,
-    copy: &mut [u16],
-    j: usize,
-)
-    requires { ⌜ (PieceIn width columns) × (rows .lowest ≤ rows .start) × (rows .start < rows .end) × (rows .end ≤ rows .limit)
-        × (rows .limit * width ≤ length (now plane)) × (copyLength columns rows ≤ length (now copy)) × (j < pitch rows) ⌝ }
-    ensures { λ _. ⌜ now (copy .exit) ≡ painted (now (copy .entry)) (between (j * pitch columns) (pitch columns))
-        (copyAt columns rows sides (now (plane .entry)) width) ⌝ }
+// What row j of the copy of a piece holds. Past a corner it has its own range of columns.
+fn row_range(width: usize, columns: Piece, rows: Piece, sides: Sides, j: usize) -> RowRange
+    requires { ⌜ (rows .lowest ≤ rows .start) × (rows .start < rows .limit) × (rows .start + j < 2 ^ 63)
+        × (rows .limit * width < 2 ^ 63) ⌝ }
+    ensures { λ r. ⌜ r ≡ rowRange columns rows sides width j ⌝ }
 {
     let v = row_of(rows, j);
-    let lowest = row_lowest(columns, rows, sides, v);
-    let limit = row_limit(columns, rows, sides, v);
-    let n = extent(columns);
-    copy_row(
-        plane,
-        v * width,
-        lowest,
-        limit,
-        columns.start as usize,
-        n,
-        copy,
-        j * (n + 6),
-    );
+    RowRange {
+        row: v * width,
+        start: columns.start as usize,
+        lowest: row_lowest(columns, rows, sides, v),
+        limit: row_limit(columns, rows, sides, v),
+    }
 }
 
 // The copy of a piece of a plane of so many columns; the sides are its CTB's. `copy-reads` says that it holds the samples at padded
@@ -179,10 +152,12 @@ pub fn copy_piece(
     ensures { λ _. ⌜ now (copy .exit) ≡ painted (now (copy .entry)) (between 0 (copyLength columns rows))
         (copyAt columns rows sides (now (plane .entry)) width) ⌝ }
 {
+    let n = extent(columns);
     let count = extent(rows) + 6;
     let mut j: usize = 0;
     while j < count {
-        copy_row_of(plane, width, columns, rows, sides, copy, j);
+        let range = row_range(width, columns, rows, sides, j);
+        copy_row(plane, range, n, copy, j * (n + 6));
         j += 1;
     }
 }

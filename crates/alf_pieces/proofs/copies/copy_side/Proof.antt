@@ -12,11 +12,10 @@ use Rattle.alf_pieces.proofs.copies.copy_side.Statement.{statement}
 use Rattle.alf_pieces.proofs.copies.copy_side.Tie as tie
 
 abbrev Inv-loop : tie.InvT-loop
-Inv-loop plane row lowest limit start copy₀ at i k₀ copy k = (k ≤ 3)
-    × Paint copy₀ (between (at + i) k) (rowAt plane row lowest limit start at) copy
+Inv-loop plane r copy₀ at i k₀ copy k = (k ≤ 3) × Paint copy₀ (between (at + i) k) (rowAt plane r at) copy
 
 abbrev μ-loop : tie.MeasureT-loop
-μ-loop plane row lowest limit start copy₀ at i k₀ copy k = 3 - k
+μ-loop plane r copy₀ at i k₀ copy k = 3 - k
 
 pub copy-side-spec : {M : Type 1} → statement M
 copy-side-spec =
@@ -26,10 +25,12 @@ copy-side-spec =
     (λ c. omega arith) (λ c κs. omega arith) (λ c κs. search needs) (λ c. omega arith) (λ c. omega arith) (λ c. omega arith)
     (λ c. omega arith) (λ c. omega arith) (λ c. omega arith) (λ c. omega arith) (λ c. omega arith) (λ c. omega arith)
     (λ c.
-    let looped : tie.At-loop Inv-loop μ-loop = search needs in (
+    let looped : tie.At-loop Inv-loop μ-loop = search needs in
+    let place : tie.After-position Inv-loop μ-loop = search needs in
+    let column : tie.After-held Inv-loop μ-loop = search needs in (
       omega arith,
       paint-set _ _ (looped .loop .inv .1) (omega arith)
-          (side-value _ _ _ _ _ _ _ _ _ _ (c .before .before .position .ensures) (c .before .held .ensures) (omega arith))
+          (side-value _ _ _ _ _ _ _ (place .position .ensures) (column .held .ensures) (omega arith))
           (λ k _. run-more _ _ k),
     ))
     (λ c. search needs)
