@@ -38,23 +38,23 @@ own _ half B = let N = B .numbers in omega (arith, B .start4, B .end4, N .filled
 
 -- ---- the rows that are read
 
--- how far the rows lie that are read
-pub record Near (r : CrossRows) : Type 0 where
+-- the rows that are read lie at most one above the sample and two below it
+pub record SmallRows (r : CrossRows) : Type 0 where
   pub above : r .y1 ≤ 1
   pub order : r .y1 ≤ r .y2
   pub below : r .y2 ≤ 2
 
-pub near : (line : Bool) (d : ℕ) → Near (crossRows line d)
+pub small-rows : (line : Bool) (d : ℕ) → SmallRows (crossRows line d)
 unfolding crossRows
-near line d = pick (line && (eqb d 5 || eqb d 4)) (line && (eqb d 6 || eqb d 3))
+small-rows line d = pick (line && (eqb d 5 || eqb d 4)) (line && (eqb d 6 || eqb d 3))
   where
-    pick : (s t : Bool) → Near (cond s (record { y1 = 0; y2 = 0 }) (cond t (record { y1 = 1; y2 = 1 }) (record { y1 = 1; y2 = 2 })))
+    pick : (s t : Bool) → SmallRows (cond s (record { y1 = 0; y2 = 0 }) (cond t (record { y1 = 1; y2 = 1 }) (record { y1 = 1; y2 = 2 })))
     pick true t = omega arith
     pick false true = omega arith
     pick false false = omega arith
 
 -- the rows that are read lie in the copy, which has so many rows, where the sample is in row j
-pub row-reads : {split : List ℕ} {r : CrossRows} (j pitch step rows n : ℕ) → Near r → SmallCopy split (rows * pitch)
+pub row-reads : {split : List ℕ} {r : CrossRows} (j pitch step rows n : ℕ) → SmallRows r → SmallCopy split (rows * pitch)
     → j + 2 < rows → n + last (crossStartsOf pitch j r step) < pitch → CrossReads split (crossStartsOf pitch j r step) n
 row-reads {r = r} j pitch step rows n near held inside within =
     let up : (j - r .y1) * pitch ≤ (j + r .y2) * pitch = mul-le-mul-right pitch (omega arith) in

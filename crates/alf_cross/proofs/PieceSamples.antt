@@ -35,7 +35,7 @@ use Rattle.alf_pieces.proofs.CopyHolds.{copy-holds}
 use Rattle.alf_pieces.proofs.CopySamples.{luma-in}
 use Rattle.alf_cross.specs.Taps.{Split}
 use Rattle.alf_cross.specs.Pieces.{CrossFilter, crossRowsOf, splitRead, pieceSum, splitCrossAt}
-use Rattle.alf_cross.proofs.PieceRows.{Near, near}
+use Rattle.alf_cross.proofs.PieceRows.{SmallRows, small-rows}
 
 -- ---- sums
 
@@ -82,7 +82,7 @@ module _ {i : Input} {p : Picture} {c : Ctb} {s : Sides} (ctb : CtbOf (i .layout
     abbrev reads : ℕ × ℕ → ℕ
     reads q = read (i .layout) (lumaPlane (i .layout)) x y (i .luma) (q .0) (q .1)
 
-    taps-same : (r : CrossRows) → Near r → map reads (crossTaps x y r) ≡ map (splitRead split columns (subWidth (i .layout .picture)))
+    taps-same : (r : CrossRows) → SmallRows r → map reads (crossTaps x y r) ≡ map (splitRead split columns (subWidth (i .layout .picture)))
         (crossTaps (m + 3) (n + 3) r)
     unfolding crossTaps
     taps-same r near =
@@ -99,7 +99,7 @@ module _ {i : Input} {p : Picture} {c : Ctb} {s : Sides} (ctb : CtbOf (i .layout
         ∷ read-same x (y + r .y2) (m + 3) (n + 3 + r .y2) (omega arith) (omega arith) t
         ∷ []
 
-    sums-same : (r : CrossRows) → Near r
+    sums-same : (r : CrossRows) → SmallRows r
         → pieceSum split columns (subWidth (i .layout .picture)) filters r (m + 3) (n + 3)
         ≡ crossSum (reads (x, y)) (crossCoeff i (crossAps i c component) component (crossIndex i c component - 1))
         (map reads (crossTaps x y r))
@@ -154,4 +154,4 @@ module _ {i : Input} {p : Picture} {c : Ctb} {s : Sides} (ctb : CtbOf (i .layout
       let own = own-ctb x y m n column row (omega arith) (omega arith) (k % W) (k / W) refl refl in
       rw (grid .ctb, ← isChroma, ← (ctb .picture), div-add-mod' k W, own, offsets-same l y)
       (ap (corrected (q .«bit_depth») (getD (i .chroma) k 0))
-      (sums-same x y m n column row (omega arith) (omega arith) (crossRowsOf (q .height) (ctbSize q) y) (near _ _)))
+      (sums-same x y m n column row (omega arith) (omega arith) (crossRowsOf (q .height) (ctbSize q) y) (small-rows _ _)))

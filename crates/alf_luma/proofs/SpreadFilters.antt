@@ -36,6 +36,9 @@ class-of-range depth r window = class-range depth _ _
 pub number-parts : {n : ℕ} {c : Class} → n ≡ classNumber c → ClassRange c → (n % 32 ≡ c .filter) × (n / 32 ≡ c .transpose)
 number-parts e h = (omega arith, omega arith)
 
+pub number-range : {n : ℕ} {c : Class} → n ≡ classNumber c → ClassRange c → (n % 32 < 25) × (n / 32 < 4)
+number-range e h = (omega arith, omega arith)
+
 -- an entry of the tap orders, for a coefficient and for a clip
 coeff-index : (t j : ℕ) → j < 12 → tapIndex t j ≡ tapOrder t j
 unfolding tapIndex

@@ -9,7 +9,7 @@ use Rattle.alf_spec.proofs.Ratios.{chroma-ratios}
 use Rattle.alf_math.proofs.Grids.{width-bounds, height-bounds, depth-bounds}
 use Rattle.alf_pieces.specs.Copies.{extent, pitch}
 use Rattle.alf_lists.proofs.Painted.{paint-is, paint-of, paint-same}
-use Rattle.alf_cross.proofs.PieceRows.{Near, near, row-reads, columns-fit, luma-row, row-fits, row-value}
+use Rattle.alf_cross.proofs.PieceRows.{SmallRows, small-rows, row-reads, columns-fit, luma-row, row-fits, row-value}
 use Rattle.alf_cross.proofs.piece.piece_row.Statement.{statement}
 use Rattle.alf_cross.proofs.piece.piece_row.Tie as tie
 
@@ -53,7 +53,7 @@ offset-row-requires c κs =
     let a = s .args in
     let W = s .pre .0 in
     let y = inside s in
-    let N : Near (table .rows-at .result) = rw (table .rows-at .ensures) (near _ _) in
+    let N : SmallRows (table .rows-at .result) = rw (table .rows-at .ensures) (small-rows _ _) in
     let depth = depth-bounds _ (W .picture .depth) in
     let fits = row-fits (a .picture) (s .pre .1) (s .pre .2) (a .v) (s .pre .4) (s .pre .5) in
     rw (indexed .chroma-index .ensures, wide .sub-width .ensures .0, tall .sub-height .ensures .0, long .extent .ensures) (

@@ -17,7 +17,7 @@ use Rattle.alf_classify.proofs.PieceRows.{Blocks, blocks}
 use Rattle.alf_taps.specs.Spread.{TapNumbers}
 use Rattle.alf_luma.specs.SpreadFilters.{spreadFrom}
 use Rattle.alf_luma.specs.Samples.{pieceClass}
-use Rattle.alf_luma.proofs.SpreadFilters.{class-of-range, number-parts, RowFilters, row-filters, spread-numbers}
+use Rattle.alf_luma.proofs.SpreadFilters.{class-of-range, number-range, RowFilters, row-filters, spread-numbers}
 use Rattle.alf_luma.proofs.SpreadRows.{blocks-value}
 use Rattle.alf_luma.proofs.piece.filter_blocks.Statement.{statement}
 use Rattle.alf_luma.proofs.piece.filter_blocks.Tie as tie
@@ -45,8 +45,7 @@ spread-requires c κs =
       work .numbers,
       work .order,
       omega (arith, s .pre .2, s .pre .4, across f .few, down f .few),
-      λ b h. let parts = number-parts (s .pre .3 b (s .args .row) h (s .pre .4)) (class-of-range _ _ _) in
-          (rw (parts .0) (class-of-range _ _ _ .0), rw (parts .1) (class-of-range _ _ _ .1)),
+      λ b h. number-range (s .pre .3 b (s .args .row) h (s .pre .4)) (class-of-range _ _ _),
       omega (arith, across f .few),
       work .spread .room,
     )

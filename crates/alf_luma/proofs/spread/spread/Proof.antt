@@ -48,15 +48,11 @@ loop-again c =
           (λ k h. rw (← next) (rect-beside 128 0 (4 * l .b) (4 * l .b + 4) 0 24 (omega arith) (omega arith) k)),
     )
 
-returns : tie.Need-returns Inv-loop μ-loop
-returns c =
-    let inv = c .before .loop .inv in
-    rw (le-antisymm (inv .0) (c .loop-test .left)) at (inv .1)
-
 pub spread-spec : {M : Type 1} → statement M
 spread-spec =
     tie.close
     (tie.spec Inv-loop μ-loop
     (λ c. (omega arith, fill-none (λ k. rect-none _ _ _ _ _ k (inl (omega arith)))))
     (λ c. omega arith) (λ c. omega arith) (λ c. omega arith) put-class-requires (λ c. omega arith) (λ c. omega arith) loop-again
-    (λ c. search needs) returns)
+    (λ c. search needs)
+    (λ c. let inv = c .before .loop .inv in rw (le-antisymm (inv .0) (c .loop-test .left)) at (inv .1)))
