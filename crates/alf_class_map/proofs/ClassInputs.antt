@@ -8,16 +8,20 @@ use native.Mathlib.Nat.{mul-comm, mul-le-mul-right, div-one}
 use native.Mathlib.Omega.{arith}
 use Rattle.alf_spec.specs.declared.Picture.{Picture}
 use Rattle.alf_spec.specs.declared.Grid.{Grid}
+use Rattle.alf_spec.specs.declared.Sides.{Sides}
 use Rattle.alf_spec.specs.Input.{Layout, classes, classesInput}
-use Rattle.alf_spec.specs.Geometry.{ctbSize, planeOf, planeLength, classPlane}
-use Rattle.alf_spec.specs.Faults.{virtualListValid, fault}
+use Rattle.alf_spec.specs.Geometry.{planeOf, planeLength, classPlane}
+use Rattle.alf_spec.specs.Faults.{fault}
 use Rattle.alf_spec.proofs.Accepted.{AcceptedLayout, accepted, lists-valid, luma-length, luma-samples, output-length}
 use Rattle.alf_math.specs.Grids.{GridOf}
 use Rattle.alf_math.proofs.Grids.{width-bounds, height-bounds, sample-bound}
 use Rattle.alf_math.proofs.CtbAddresses.{ctb-in-picture}
+use Rattle.alf_boundary.specs.Clips.{columnAxis, rowAxis}
 use Rattle.alf_pieces.specs.declared.pieces.Piece.{Piece}
 use Rattle.alf_pieces.specs.Pieces.{BlockPiece}
+use Rattle.alf_pieces.specs.Walks.{Along}
 use Rattle.alf_pieces.specs.Copies.{area}
+use Rattle.alf_pieces.proofs.PieceWalk.{walk-luma, columns-along, rows-along}
 use Rattle.alf_classify.specs.PieceClasses.{MapRoom}
 use Rattle.alf_class_map.specs.ClassWork.{ClassWork}
 use Rattle.alf_classify.proofs.PieceRows.{blocks}
@@ -76,12 +80,17 @@ module _ (l : Layout) (luma : List ℕ) (n : ℕ) (ok : fault classes (classesIn
       samples = λ k. sample-bound (l .picture) (accepted-classes .bitDepth) (luma-samples classes (classesInput l luma n) ok refl k);
     }
 
-    -- for the CTB at address k
-    pub ctb-given : (k : ℕ) → k < g .columns * g .rows → (ClassWork (l .picture) g luma copy differences n)
-        × (virtualListValid (l .picture .width) (ctbSize (l .picture)) (l .virtualColumns) ≡ true)
-        × (virtualListValid (l .picture .height) (ctbSize (l .picture)) (l .virtualRows) ≡ true)
-        × (k % g .columns * g .ctb < l .picture .width) × (k / g .columns * g .ctb < l .picture .height)
-    ctb-given k below =
+    -- for the CTB at address k, whose sides are these
+    pub ctb-given : (s : Sides) (k : ℕ) → k < g .columns * g .rows → (ClassWork (l .picture) g luma copy differences n)
+        × Along (columnAxis (l .picture) g s (k % g .columns)) (l .virtualColumns) × (l .picture .width ≡ l .picture .width)
+        × Along (rowAxis (l .picture) g s 4 (k / g .columns)) (l .virtualRows) × (l .picture .height ≡ l .picture .height)
+    ctb-given s k below =
         let lists = lists-valid l (accepted-classes .virtualBoundaries) in
         let begins = ctb-in-picture grid k below in
-        (class-work, lists .0, lists .1, begins .0, begins .1)
+        let picture = class-work .rooms .picture in (
+          class-work,
+          columns-along picture s (k % g .columns) (lists .0) (begins .0),
+          refl,
+          rows-along picture s (k / g .columns) walk-luma (lists .1) (begins .1),
+          refl,
+        )

@@ -1,27 +1,16 @@
 // The classes of a CTB's blocks: a piece of its rows at a time, a piece of its columns at a time.
 ghost use mathlib.Core.Path.{_≡_};
-ghost use mathlib.Core.Bool.{true};
-ghost use Prim.Native.Nat.{_+_, _*_, _/_, _<_, min};
 ghost use lib.ListN.{length};
-ghost use Rattle.alf_spec.specs.Lists.{painted};
-ghost use Rattle.alf_spec.specs.Input.{Layout};
-ghost use Rattle.alf_spec.specs.Geometry.{ctbSize, lumaPlane};
-ghost use Rattle.alf_spec.specs.Boundary.{columnSide, rowSide};
-ghost use Rattle.alf_spec.specs.Process.{classAt};
-ghost use Rattle.alf_spec.specs.Faults.{virtualListValid};
-ghost use Rattle.alf_spec.specs.declared.Ctb.{Ctb};
-ghost use Rattle.alf_lists.specs.Regions.{inRect};
-ghost use Rattle.alf_pieces.specs.Pieces.{PieceOf, BlockPiece, CtbOf};
-ghost use Rattle.alf_class_map.specs.ClassWork.{ClassWork, ColumnsClassified, RowsClassified};
-use alf_boundary::clips::column_axis;
+ghost use Rattle.alf_pieces.specs.Pieces.{limitAlong, BlockPiece};
+ghost use Rattle.alf_pieces.specs.Walks.{Along};
+ghost use Rattle.alf_class_map.specs.ClassWork.{ClassWork, PieceClassified, ColumnsClassified, RowsClassified};
+use alf_boundary::clips::CtbAxis;
 use alf_boundary::clips::ctb_start;
-use alf_boundary::clips::row_axis;
 use alf_classify::piece_classes;
 use alf_pieces::copies::copy_piece;
 use alf_pieces::pieces::Piece;
 use alf_pieces::pieces::ctb_limit;
 use alf_pieces::pieces::piece_at;
-use alf_spec::Ctb;
 use alf_spec::Grid;
 use alf_spec::Picture;
 use alf_spec::Sides;
@@ -40,11 +29,7 @@ fn class_piece(
 )
     requires { ⌜ (ClassWork picture grid (now luma) (length (now copy)) (length (now differences)) (length (now map)))
         × (BlockPiece (picture .width) columns) × (BlockPiece (picture .height) rows) ⌝ }
-    ensures { λ _. ⌜ ((l : Layout) (c : Ctb) → CtbOf l picture c sides
-        → PieceOf (lumaPlane l .columns) (columnSide l c) (c .column) columns → PieceOf (lumaPlane l .rows) (rowSide l c) (c .row) rows
-        → now (map .exit) ≡ painted (now (map .entry))
-        (inRect (picture .width / 4) (columns .start / 4) (columns .end / 4) (rows .start / 4) (rows .end / 4))
-        (classAt l (now (luma .entry)))) ⌝ }
+    ensures { λ _. ⌜ PieceClassified picture sides columns rows (now (luma .entry)) (now (map .entry)) (now (map .exit)) ⌝ }
 {
     copy_piece(luma, picture.width as usize, columns, rows, sides, copy);
     piece_classes(
@@ -61,13 +46,13 @@ fn class_piece(
     );
 }
 
-// The classes of the CTB's blocks in a piece of its rows.
+// The classes of the CTB's blocks in a piece of its rows: those of every piece along the axis of columns.
 fn class_strip(
     picture: Picture,
     grid: Grid,
-    virtual_columns: &[u16],
-    ctb: Ctb,
     sides: Sides,
+    columns: CtbAxis,
+    virtual_columns: &[u16],
     rows: Piece,
     luma: &[u16],
     copy: &mut [u16],
@@ -75,68 +60,65 @@ fn class_strip(
     map: &mut [u8],
 )
     requires { ⌜ (ClassWork picture grid (now luma) (length (now copy)) (length (now differences)) (length (now map)))
-        × (virtualListValid (picture .width) (ctbSize picture) (now «virtual_columns») ≡ true)
-        × (BlockPiece (picture .height) rows) × (ctb .column * grid .ctb < picture .width) ⌝ }
-    ensures { λ _. ⌜ ColumnsClassified picture grid (now («virtual_columns» .entry)) ctb sides rows (now (luma .entry))
-        (min (ctb .column * grid .ctb + grid .ctb) (picture .width)) (now (map .entry)) (now (map .exit)) ⌝ }
+        × (Along columns (now «virtual_columns»)) × (columns .size ≡ picture .width) × (BlockPiece (picture .height) rows) ⌝ }
+    ensures { λ _. ⌜ ColumnsClassified picture sides columns (now («virtual_columns» .entry)) rows (now (luma .entry)) (limitAlong columns)
+        (now (map .entry)) (now (map .exit)) ⌝ }
 {
-    let axis = column_axis(picture, grid, sides, ctb.column);
-    let right = ctb_limit(axis);
-    let mut x = ctb_start(axis);
+    let right = ctb_limit(columns);
+    let mut x = ctb_start(columns);
     while x < right {
-        let columns = piece_at(axis, virtual_columns, x);
+        let piece = piece_at(columns, virtual_columns, x);
         class_piece(
             picture,
             grid,
             sides,
-            columns,
+            piece,
             rows,
             luma,
             copy,
             differences,
             map,
         );
-        x = columns.end;
+        x = piece.end;
     }
 }
 
-// The classes of the CTB's blocks.
+// The classes of the CTB's blocks: those of every piece along the axis of rows.
 pub(crate) fn class_ctb(
     picture: Picture,
     grid: Grid,
-    virtual_columns: &[u16],
-    virtual_rows: &[u16],
-    ctb: Ctb,
     sides: Sides,
+    columns: CtbAxis,
+    virtual_columns: &[u16],
+    rows: CtbAxis,
+    virtual_rows: &[u16],
     luma: &[u16],
     copy: &mut [u16],
     differences: &mut [u16],
     map: &mut [u8],
 )
     requires { ⌜ (ClassWork picture grid (now luma) (length (now copy)) (length (now differences)) (length (now map)))
-        × (virtualListValid (picture .width) (ctbSize picture) (now «virtual_columns») ≡ true)
-        × (virtualListValid (picture .height) (ctbSize picture) (now «virtual_rows») ≡ true)
-        × (ctb .column * grid .ctb < picture .width) × (ctb .row * grid .ctb < picture .height) ⌝ }
-    ensures { λ _. ⌜ RowsClassified picture grid (now («virtual_columns» .entry)) (now («virtual_rows» .entry)) ctb sides
-        (now (luma .entry)) (min (ctb .row * grid .ctb + grid .ctb) (picture .height)) (now (map .entry)) (now (map .exit)) ⌝ }
+        × (Along columns (now «virtual_columns»)) × (columns .size ≡ picture .width) × (Along rows (now «virtual_rows»))
+        × (rows .size ≡ picture .height) ⌝ }
+    ensures { λ _. ⌜ RowsClassified picture sides columns (now («virtual_columns» .entry)) rows (now («virtual_rows» .entry))
+        (now (luma .entry)) (limitAlong rows) (now (map .entry)) (now (map .exit)) ⌝ }
 {
-    let axis = row_axis(picture, grid, sides, 4, ctb.row);
-    let bottom = ctb_limit(axis);
-    let mut y = ctb_start(axis);
+    let bottom = ctb_limit(rows);
+    let mut y = ctb_start(rows);
     while y < bottom {
-        let rows = piece_at(axis, virtual_rows, y);
+        let piece = piece_at(rows, virtual_rows, y);
         class_strip(
             picture,
             grid,
-            virtual_columns,
-            ctb,
             sides,
-            rows,
+            columns,
+            virtual_columns,
+            piece,
             luma,
             copy,
             differences,
             map,
         );
-        y = rows.end;
+        y = piece.end;
     }
 }

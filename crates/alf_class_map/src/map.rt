@@ -5,12 +5,13 @@ ghost use Rattle.alf_spec.specs.Input.{layoutOf, Input, classes, classesInput};
 ghost use Rattle.alf_spec.specs.Process.{classMap};
 ghost use Rattle.alf_spec.specs.Faults.{fault};
 use crate::ctbs::class_ctb;
+use alf_boundary::clips::column_axis;
+use alf_boundary::clips::row_axis;
 use alf_classify::AREA;
 use alf_math::grid::grid;
 use alf_sides::CTBS;
 use alf_sides::plan_sides;
 use alf_sides::sides_at;
-use alf_spec::Ctb;
 use alf_spec::Picture;
 
 // The class map of an accepted picture.
@@ -49,17 +50,15 @@ pub fn class_map(
     let mut differences: [u16; 4 * AREA] = [0; 4 * AREA];
     let mut k = 0;
     while k < total {
-        let ctb = Ctb {
-            column: k % grid.columns,
-            row: k / grid.columns,
-        };
+        let own = sides_at(&sides, k);
         class_ctb(
             picture,
             grid,
+            own,
+            column_axis(picture, grid, own, k % grid.columns),
             virtual_columns,
+            row_axis(picture, grid, own, 4, k / grid.columns),
             virtual_rows,
-            ctb,
-            sides_at(&sides, k),
             luma,
             &mut copy,
             &mut differences,

@@ -2,23 +2,26 @@
 use mathlib.Core.Path.{_≡_}
 use mathlib.Core.Bool.{true}
 use mathlib.Core.List.{List}
-use Prim.Native.Nat.{ℕ, _+_, _*_, _/_, _≤_, _<_, min}
+use Prim.Native.Nat.{ℕ, _+_, _*_, _/_, _≤_, _<_}
 use lib.IntN.{ℤ, pos}
 use lib.ListN.{length, getD}
+use Rattle.alf_spec.specs.declared.ClipCause.{ClipCause}
 use Rattle.alf_spec.specs.declared.Ctb.{Ctb}
 use Rattle.alf_spec.specs.declared.Grid.{Grid}
 use Rattle.alf_spec.specs.declared.Picture.{Picture}
 use Rattle.alf_spec.specs.declared.Sides.{Sides}
 use Rattle.alf_spec.specs.Lists.{painted}
 use Rattle.alf_spec.specs.Input.{given, Input}
-use Rattle.alf_spec.specs.Geometry.{subWidth, subHeight}
+use Rattle.alf_spec.specs.Geometry.{Side, Axis, subWidth, subHeight}
 use Rattle.alf_spec.specs.Boundary.{columnSide, rowSide}
 use Rattle.alf_spec.specs.Process.{atIndex, outputPlane}
 use Rattle.alf_math.specs.Grids.{AcceptedPicture}
 use Rattle.alf_math.specs.Integers.{CoeffRange, ClipRange}
+use Rattle.alf_boundary.specs.declared.clips.CtbAxis.{CtbAxis}
 use Rattle.alf_pieces.specs.declared.pieces.Piece.{Piece}
 use Rattle.alf_lists.specs.Regions.{inRect}
-use Rattle.alf_pieces.specs.Pieces.{PieceOf, CtbOf}
+use Rattle.alf_pieces.specs.Pieces.{limitAlong, PieceOf, CtbOf}
+use Rattle.alf_pieces.specs.Walks.{PiecesAlong}
 use Rattle.alf_pieces.specs.Copies.{area}
 use Rattle.alf_taps.specs.Spread.{TapNumbers}
 use Rattle.alf_params.specs.Filters.{FilterNumbers}
@@ -61,31 +64,33 @@ Numbers Luma filters = FilterNumbers filters
 Numbers (Chroma component) filters = ChromaNumbers filters
 Numbers (CrossComponent component) filters = CrossNumbers filters
 
--- a piece is filtered: `new` is `old` with the piece's samples, or those of the filter's plane that lie in it, written anew, for every
--- input in which a CTB has these sides and this filter's numbers, and the piece is one of its pieces
-abbrev pub PieceFiltered : Filter → Picture → Sides → Piece → Piece → List ℕ → List ℕ → List ℤ → List ℕ → List ℕ → Type 0
-PieceFiltered f p sides columns rows lumaSamples chromaSamples filters old new =
+-- a part of the filter's plane is filtered, from the luma column x up to x′ and the luma row y up to y′: `new` is `old` with the samples
+-- that lie there written anew, for every input in which a CTB has these sides and this filter's numbers, and its pieces are as the two
+-- conditions say
+abbrev pub Filtered : Filter → Picture → Sides → List ℕ → List ℕ → List ℤ → (Axis → (Side → ClipCause) → ℕ → Type 0)
+    → (Axis → (Side → ClipCause) → ℕ → Type 0) → ℕ → ℕ → ℕ → ℕ → List ℕ → List ℕ → Type 0
+Filtered f p sides lumaSamples chromaSamples filters Columns Rows x x′ y y′ old new =
     (i : Input) (c : Ctb) → CtbOf (i .layout) p c sides → i .luma ≡ lumaSamples → i .chroma ≡ chromaSamples → OwnFilter f i c filters
-    → PieceOf (walkPlane f (i .layout) .columns) (columnSide (i .layout) c) (c .column) columns
-    → PieceOf (walkPlane f (i .layout) .rows) (rowSide (i .layout) c) (c .row) rows
-    → new ≡ painted old (inRect (p .width / columnRatio f p) (columns .start / columnRatio f p) (columns .end / columnRatio f p)
-    (rows .start / rowRatio f p) (rows .end / rowRatio f p)) (atIndex (outputPlane (operationOf f) (i .layout)) (sampleOf f i))
+    → Columns (walkPlane f (i .layout) .columns) (columnSide (i .layout) c) (c .column)
+    → Rows (walkPlane f (i .layout) .rows) (rowSide (i .layout) c) (c .row)
+    → new ≡ painted old (inRect (p .width / columnRatio f p) (x / columnRatio f p) (x′ / columnRatio f p) (y / rowRatio f p)
+    (y′ / rowRatio f p)) (atIndex (outputPlane (operationOf f) (i .layout)) (sampleOf f i))
 
--- the pieces of a CTB's columns up to x are filtered, in a piece of its rows
-abbrev pub ColumnsFiltered : Filter → Picture → Grid → List ℕ → Ctb → Sides → Piece → List ℕ → List ℕ → List ℤ → ℕ → List ℕ
-    → List ℕ → Type 0
-ColumnsFiltered f p g virtualColumns c sides rows lumaSamples chromaSamples filters x old new =
-    (i : Input) → CtbOf (i .layout) p c sides → i .layout .virtualColumns ≡ virtualColumns → i .luma ≡ lumaSamples
-    → i .chroma ≡ chromaSamples
-    → OwnFilter f i c filters → PieceOf (walkPlane f (i .layout) .rows) (rowSide (i .layout) c) (c .row) rows
-    → new ≡ painted old (inRect (p .width / columnRatio f p) (c .column * g .ctb / columnRatio f p) (x / columnRatio f p)
-    (rows .start / rowRatio f p) (rows .end / rowRatio f p)) (atIndex (outputPlane (operationOf f) (i .layout)) (sampleOf f i))
+-- a piece is filtered
+abbrev pub PieceFiltered : Filter → Picture → Sides → Piece → Piece → List ℕ → List ℕ → List ℤ → List ℕ → List ℕ → Type 0
+PieceFiltered f p sides columns rows lumaSamples chromaSamples filters =
+    Filtered f p sides lumaSamples chromaSamples filters (λ a side q. PieceOf a side q columns) (λ a side q. PieceOf a side q rows)
+    (columns .start) (columns .end) (rows .start) (rows .end)
 
--- the pieces of its rows up to y
-abbrev pub RowsFiltered : Filter → Picture → Grid → List ℕ → List ℕ → Ctb → Sides → List ℕ → List ℕ → List ℤ → ℕ → List ℕ → List ℕ → Type 0
-RowsFiltered f p g virtualColumns virtualRows c sides lumaSamples chromaSamples filters y old new =
-    (i : Input) → CtbOf (i .layout) p c sides → i .layout .virtualColumns ≡ virtualColumns → i .layout .virtualRows ≡ virtualRows
-    → i .luma ≡ lumaSamples → i .chroma ≡ chromaSamples → OwnFilter f i c filters
-    → new ≡ painted old (inRect (p .width / columnRatio f p) (c .column * g .ctb / columnRatio f p)
-    (min (c .column * g .ctb + g .ctb) (p .width) / columnRatio f p) (c .row * g .ctb / rowRatio f p) (y / rowRatio f p))
-    (atIndex (outputPlane (operationOf f) (i .layout)) (sampleOf f i))
+-- the pieces along an axis of columns up to x are filtered, in a piece of rows
+abbrev pub ColumnsFiltered : Filter → Picture → Sides → CtbAxis → List ℕ → Piece → List ℕ → List ℕ → List ℤ → ℕ → List ℕ → List ℕ → Type 0
+ColumnsFiltered f p sides columns virtualColumns rows lumaSamples chromaSamples filters x =
+    Filtered f p sides lumaSamples chromaSamples filters (PiecesAlong columns virtualColumns) (λ a side q. PieceOf a side q rows)
+    (columns .place * columns .ctb) x (rows .start) (rows .end)
+
+-- the pieces along an axis of rows up to y are filtered, over all pieces along the axis of columns
+abbrev pub RowsFiltered : Filter → Picture → Sides → CtbAxis → List ℕ → CtbAxis → List ℕ → List ℕ → List ℕ → List ℤ → ℕ → List ℕ → List ℕ
+    → Type 0
+RowsFiltered f p sides columns virtualColumns rows virtualRows lumaSamples chromaSamples filters y =
+    Filtered f p sides lumaSamples chromaSamples filters (PiecesAlong columns virtualColumns) (PiecesAlong rows virtualRows)
+    (columns .place * columns .ctb) (limitAlong columns) (rows .place * rows .ctb) y

@@ -5,5 +5,6 @@ mod pieces;
 mod tables;
 
 pub use ctbs::filter_ctb;
+pub use ctbs::walk_line;
 pub use tables::is_on;
 pub use tables::load;

@@ -32,9 +32,9 @@ pub record FilterTables : Type 0 where
   pub orders : List ℕ
 
 -- these tables, each by its position, in the order in which functions are given them
-abbrev pub tablesOf : Picture → Grid → List ℕ → List ℕ → List ℕ → List ℕ → List ℤ → List ℕ → List ℤ → List ℕ → List ℕ → List ℕ → List ℕ
+abbrev pub givenTables : Picture → Grid → List ℕ → List ℕ → List ℕ → List ℕ → List ℤ → List ℕ → List ℤ → List ℕ → List ℕ → List ℕ → List ℕ
     → FilterTables
-tablesOf picture grid virtualColumns virtualRows sliceMap sliceParams bank ctbParams fixedFilters fixedMap luma chroma orders = record {
+givenTables picture grid virtualColumns virtualRows sliceMap sliceParams bank ctbParams fixedFilters fixedMap luma chroma orders = record {
   picture = picture;
   grid = grid;
   virtualColumns = virtualColumns;
@@ -62,8 +62,8 @@ pub record TablesAccepted (f : Filter) (t : FilterTables) : Type 0 where
 -- the tables of an input
 abbrev pub inputTables : Input → Grid → List ℕ → FilterTables
 inputTables i grid orders =
-    tablesOf (i .layout .picture) grid (i .layout .virtualColumns) (i .layout .virtualRows) (i .layout .sliceMap) (i .sliceParams) (i .bank)
-    (i .ctbParams) (i .fixedFilters) (i .fixedMap) (i .luma) (i .chroma) orders
+    givenTables (i .layout .picture) grid (i .layout .virtualColumns) (i .layout .virtualRows) (i .layout .sliceMap) (i .sliceParams)
+    (i .bank) (i .ctbParams) (i .fixedFilters) (i .fixedMap) (i .luma) (i .chroma) orders
 
 -- the input i is accepted, and these are its tables
 pub record TablesIn (f : Filter) (i : Input) (t : FilterTables) : Type 0 where

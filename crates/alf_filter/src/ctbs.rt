@@ -8,13 +8,15 @@ ghost use Rattle.alf_taps.specs.Spread.{TapNumbers};
 ghost use Rattle.alf_sides.specs.Planned.{SidesPlanned};
 ghost use Rattle.alf_ctb.specs.Filters.{columnRatio, rowRatio};
 ghost use Rattle.alf_ctb.specs.FilterWork.{FilterRooms};
-ghost use Rattle.alf_filter.specs.FilterTables.{FilterTables, tablesOf, TablesAccepted, TablesIn};
+ghost use Rattle.alf_filter.specs.FilterTables.{FilterTables, givenTables, TablesAccepted, TablesIn};
 ghost use Rattle.alf_filter.specs.FilteredCtbs.{MarksOn, CtbFiltered, MarkedFiltered};
+use alf_boundary::clips::column_axis;
+use alf_boundary::clips::row_axis;
 use alf_classify::AREA;
 use alf_ctb::filter_ctb;
 use alf_ctb::load;
+use alf_ctb::walk_line;
 use alf_sides::sides_at;
-use alf_spec::Ctb;
 use alf_spec::Filter;
 use alf_spec::Grid;
 use alf_spec::Picture;
@@ -45,8 +47,8 @@ fn filter_address(
     output: &mut [u16],
 )
     ghost { FilterTables }
-    requires { λ t. ⌜ tablesOf picture grid (now «virtual_columns») (now «virtual_rows») (now «slice_map») (now «slice_params») (now bank)
-        (now «ctb_params») (now «fixed_filters») (now «fixed_map») (now luma) (now chroma) (now orders) ≡ t ⌝ }
+    requires { λ t. ⌜ givenTables picture grid (now «virtual_columns») (now «virtual_rows») (now «slice_map») (now «slice_params»)
+        (now bank) (now «ctb_params») (now «fixed_filters») (now «fixed_map») (now luma) (now chroma) (now orders) ≡ t ⌝ }
     requires { λ t. ⌜ (TablesAccepted filter t) × (k < grid .columns * grid .rows) × (k < length (now sides)) × (k < length (now marks))
         × (MarksOn filter (now «ctb_params») (now marks))
         × (FilterRooms filter picture (length (now copy)) (length (now differences)) (now taps) (length (now output))) ⌝ }
@@ -57,10 +59,6 @@ fn filter_address(
     if marks[at] != 1 {
         return;
     }
-    let ctb = Ctb {
-        column: k % grid.columns,
-        row: k / grid.columns,
-    };
     let own_sides = sides_at(sides, k);
     let mut filters: [i16; 600] = [0; 600];
     let depth = picture.bit_depth as u32;
@@ -80,10 +78,17 @@ fn filter_address(
         filter,
         picture,
         grid,
-        virtual_columns,
-        virtual_rows,
-        ctb,
         own_sides,
+        column_axis(picture, grid, own_sides, k % grid.columns),
+        virtual_columns,
+        row_axis(
+            picture,
+            grid,
+            own_sides,
+            walk_line(filter),
+            k / grid.columns,
+        ),
+        virtual_rows,
         luma,
         chroma,
         &filters,
@@ -116,8 +121,8 @@ pub(crate) fn filter_marked(
     output: &mut [u16],
 )
     ghost { FilterTables }
-    requires { λ t. ⌜ tablesOf picture grid (now «virtual_columns») (now «virtual_rows») (now «slice_map») (now «slice_params») (now bank)
-        (now «ctb_params») (now «fixed_filters») (now «fixed_map») (now luma) (now chroma) (now orders) ≡ t ⌝ }
+    requires { λ t. ⌜ givenTables picture grid (now «virtual_columns») (now «virtual_rows») (now «slice_map») (now «slice_params»)
+        (now bank) (now «ctb_params») (now «fixed_filters») (now «fixed_map») (now luma) (now chroma) (now orders) ≡ t ⌝ }
     requires { λ t. ⌜ (TablesAccepted filter t) × (length (now sides) ≡ 16384) × (length (now marks) ≡ 16384)
         × (MarksOn filter (now «ctb_params») (now marks))
         × (length (now output) ≡ (picture .width / columnRatio filter picture) * (picture .height / rowRatio filter picture)) ⌝ }

@@ -16,10 +16,11 @@ use Rattle.alf_spec.proofs.Axes.{Regular, regular}
 use Rattle.alf_spec.proofs.Ratios.{Ratio}
 use Rattle.alf_math.specs.Grids.{GridOf}
 use Rattle.alf_math.proofs.Grids.{ctb-bounds}
-use Rattle.alf_boundary.specs.Clips.{columnAxis, rowAxis, axisAlong, sidesAlong}
+use Rattle.alf_boundary.specs.Clips.{columnAxis, rowAxis}
 use Rattle.alf_boundary.specs.Tables.{SidesOf}
 use Rattle.alf_pieces.specs.declared.pieces.Piece.{Piece}
 use Rattle.alf_pieces.specs.Pieces.{WalkLine, PieceOf, CtbOf}
+use Rattle.alf_pieces.specs.Walks.{PiecesAlong}
 use Rattle.alf_pieces.proofs.PieceFacts.{Facts, piece-facts}
 use Rattle.alf_pieces.proofs.PieceWalk.{walk-none, same-piece}
 
@@ -69,16 +70,14 @@ module _ {l : Layout} {p : Picture} {c : Ctb} {s : Sides} (ctb : CtbOf l p c s) 
     unfolding planeOf
     row-facts ratio walk h = piece-facts _ regular-down walk ratio small _ _ _ h
 
-    -- a piece that code finds is the layout's
-    module _ {g : Grid} (grid : GridOf p g) where
-      pub column-piece : {list : List ℕ} {columns : Piece} → l .virtualColumns ≡ list → let a = columnAxis p g s (c .column) in
-          PieceOf (axisAlong a list columnRatio) (sidesAlong a) (c .column) columns
-          → PieceOf (planeOf l columnRatio rowRatio line .columns) (columnSide l c) (c .column) columns
-      unfolding planeOf
-      column-piece e h = same-piece (rw (grid .ctb, ctb .picture, e)) (ctb .sides .left) (ctb .sides .right) h
+  -- the pieces that code finds are the layout's
+  module _ {g : Grid} (grid : GridOf p g) (line : ℕ) where
+    pub column-pieces : {list : List ℕ} → l .virtualColumns ≡ list
+        → PiecesAlong (columnAxis p g s (c .column)) list (planeOf l 1 1 line .columns) (columnSide l c) (c .column)
+    unfolding planeOf
+    column-pieces e piece h = same-piece (rw (grid .ctb, ctb .picture, e)) (ctb .sides .left) (ctb .sides .right) h
 
-      pub row-piece : {list : List ℕ} {rows : Piece} → l .virtualRows ≡ list → let a = rowAxis p g s line (c .row) in
-          PieceOf (axisAlong a list rowRatio) (sidesAlong a) (c .row) rows
-          → PieceOf (planeOf l columnRatio rowRatio line .rows) (rowSide l c) (c .row) rows
-      unfolding planeOf
-      row-piece e h = same-piece (rw (grid .ctb, ctb .picture, e)) (ctb .sides .top) (ctb .sides .bottom) h
+    pub row-pieces : {list : List ℕ} → l .virtualRows ≡ list
+        → PiecesAlong (rowAxis p g s line (c .row)) list (planeOf l 1 1 line .rows) (rowSide l c) (c .row)
+    unfolding planeOf
+    row-pieces e piece h = same-piece (rw (grid .ctb, ctb .picture, e)) (ctb .sides .top) (ctb .sides .bottom) h

@@ -23,10 +23,11 @@ use Rattle.alf_boundary.specs.declared.clips.CtbAxis.{CtbAxis}
 use Rattle.alf_boundary.specs.Clips.{columnAxis, rowAxis, axisAlong, sidesAlong}
 use Rattle.alf_boundary.proofs.ClipRules.{sides-same}
 use Rattle.alf_lists.specs.Regions.{inRect}
-use Rattle.alf_lists.proofs.Painted.{Paint, paint-none, paint-call}
+use Rattle.alf_lists.proofs.Painted.{paint-is, paint-of, paint-none, paint-call}
 use Rattle.alf_lists.proofs.Regions.{rect-none, rect-beside, rect-stacked}
 use Rattle.alf_pieces.specs.declared.pieces.Piece.{Piece}
-use Rattle.alf_pieces.specs.Pieces.{WalkLine, limitAlong, BlockAt, pieceAt, Begins, at-side, PieceOf, BlockPiece}
+use Rattle.alf_pieces.specs.Pieces.{WalkLine, limitAlong, BlockAt, pieceAt, at-side, PieceOf, BlockPiece}
+use Rattle.alf_pieces.specs.Walks.{Along, Walk, Turn}
 use Rattle.alf_pieces.proofs.PieceEnds.{begins4, limit4}
 use Rattle.alf_pieces.proofs.PieceFacts.{Facts, piece-facts}
 
@@ -40,53 +41,35 @@ walk-none = omega arith
 pub walk-luma : WalkLine 4
 walk-luma = omega arith
 
--- an axis of an accepted picture through one of its CTBs, with a line at which pieces end
-pub record Along (a : CtbAxis) (list : List ℕ) : Type 0 where
-  pub regular : Regular (axisAlong a list 1)
-  pub line : WalkLine (a .line)
-  pub ctb : a .ctb ≤ 128
-  pub size : a .size ≤ 4096
-  pub begins : a .place * a .ctb < a .size
-
 module _ {p : Picture} {g : Grid} (ok : AcceptedPicture p g) {list : List ℕ} where
-  regular-along : (size line : ℕ) → sizeValid size ≡ true → virtualListValid size (ctbSize p) list ≡ true
-      → Regular (axisOf size (g .ctb) list line 1)
-  regular-along size line wide valid = rw (ok .grid .ctb) (regular p (ok .ctbSize) size list line 1 wide valid)
+  -- an axis of its columns or its rows
+  along : (a : CtbAxis) → a .ctb ≡ g .ctb → sizeValid (a .size) ≡ true → virtualListValid (a .size) (ctbSize p) list ≡ true
+      → a .size ≤ 4096 → WalkLine (a .line) → a .place * a .ctb < a .size → Along a list
+  along a same wide valid small line begins =
+      let r = regular p (ok .ctbSize) (a .size) list (a .line) 1 wide valid in
+      let e : a .ctb ≡ ctbSize p = same ∙ ok .grid .ctb in
+      record {
+        ctbLow = rw e (r .big);
+        ctbHigh = rw same (ok .grid .ctbHigh);
+        ctb8 = rw e (r .ctb8);
+        sizeHigh = small;
+        size8 = r .size8;
+        virtual8 = r .virtual8;
+        line = line;
+        begins = begins;
+      }
 
   pub columns-along : (s : Sides) (q : ℕ) → virtualListValid (p .width) (ctbSize p) list ≡ true → q * g .ctb < p .width
       → Along (columnAxis p g s q) list
-  columns-along s q valid begins = record {
-    regular = regular-along (p .width) 0 (sizes-valid p (ok .sizes) .0) valid;
-    line = walk-none;
-    ctb = ok .grid .ctbHigh;
-    size = width-bounds p (ok .sizes) (ok .ctbSize) .1;
-    begins = begins;
-  }
+  columns-along s q valid begins =
+      along (columnAxis p g s q) refl (sizes-valid p (ok .sizes) .0) valid (width-bounds p (ok .sizes) (ok .ctbSize) .1) walk-none begins
 
   pub rows-along : (s : Sides) (q : ℕ) {line : ℕ} → WalkLine line → virtualListValid (p .height) (ctbSize p) list ≡ true
       → q * g .ctb < p .height → Along (rowAxis p g s line q) list
-  rows-along s q {line} walk valid begins = record {
-    regular = regular-along (p .height) line (sizes-valid p (ok .sizes) .1) valid;
-    line = walk;
-    ctb = ok .grid .ctbHigh;
-    size = height-bounds p (ok .sizes) (ok .ctbSize) .1;
-    begins = begins;
-  }
+  rows-along s q {line} walk valid begins =
+      along (rowAxis p g s line q) refl (sizes-valid p (ok .sizes) .1) valid (height-bounds p (ok .sizes) (ok .ctbSize) .1) walk begins
 
 -- ---- the loop
-
--- the loop stands at x: where a piece begins, or where the CTB ends
-pub record Walk (a : CtbAxis) (list : List ℕ) (x : ℕ) : Type 0 where
-  pub from : a .place * a .ctb ≤ x
-  pub upto : x ≤ limitAlong a
-  pub begins : x < limitAlong a → Begins (axisAlong a list 1) (a .place) x
-
--- what a turn of the loop finds: the piece p that begins at x, of whole blocks, and where the loop stands behind it
-pub record Turn (a : CtbAxis) (list : List ℕ) (x : ℕ) (p : Piece) : Type 0 where
-  pub start : p .start ≡ x
-  pub piece : PieceOf (axisAlong a list 1) (sidesAlong a) (a .place) p
-  pub blocks : BlockPiece (a .size) p
-  pub next : Walk a list (p .end)
 
 -- a piece of the luma plane has whole blocks
 pub block-piece : {n ctb : ℕ} {list : List ℕ} {line : ℕ} {side : Side → ClipCause} {q : ℕ} {p : Piece}
@@ -95,71 +78,50 @@ block-piece {n = n} {p = p} f =
     let own : n / 1 ≡ n = omega arith in
     record { numbers = rw own at (f .numbers); start4 = omega (arith, f .start4); end4 = omega (arith, f .end4) }
 
--- code holds the axis as b
-module _ {a : CtbAxis} {list : List ℕ} (along : Along a list) {b : CtbAxis} (same : b ≡ a) where
-  -- what is asked before it is known where the CTB begins and ends
-  pub walk-limits : (b .ctb ≤ 128) × (b .place * b .ctb ≤ 65535)
-  walk-limits =
-      subst (λ (b : CtbAxis). (b .ctb ≤ 128) × (b .place * b .ctb ≤ 65535)) (sym same)
-      (along .ctb, omega (arith, along .begins, along .size))
+module _ {a : CtbAxis} {list : List ℕ} (along : Along a list) where
+  regular-along : Regular (axisAlong a list 1)
+  regular-along = record { big = along .ctbLow; ctb8 = along .ctb8; size8 = along .size8; virtual8 = along .virtual8 }
 
   -- the loop begins where the CTB does
-  pub walk-first : {x : ℕ} → x ≡ b .place * b .ctb → x ≡ a .place * a .ctb
-  walk-first e = e ∙ ap (λ (b : CtbAxis). b .place * b .ctb) same
+  pub walk-start : {x : ℕ} → x ≡ a .place * a .ctb → Walk a list x
+  walk-start e = record { from = omega arith; upto = omega (arith, along .begins); begins = λ _. at-side e }
 
-  pub walk-start : {x : ℕ} → x ≡ b .place * b .ctb → Walk a list x
-  walk-start {x} e =
-      let first : x ≡ a .place * a .ctb = walk-first e in
-      record { from = omega arith; upto = omega (arith, along .begins); begins = λ _. at-side first }
+  module _ {x : ℕ} (w : Walk a list x) (here : x < limitAlong a) where
+    -- a block of 4 samples is left, since pieces begin and CTBs end at multiples of 4
+    pub walk-block : BlockAt a x
+    walk-block = record {
+      low = omega (arith, along .ctbLow);
+      high = along .ctbHigh;
+      line = along .line .1;
+      size = along .sizeHigh;
+      from = w .from;
+      upto = omega (
+        arith,
+        begins4 (axisAlong a list 1) regular-along (along .line) (a .place) x (w .from) here x (w .begins here),
+        limit4 (axisAlong a list 1) regular-along (along .line) (a .place) x (w .from) here,
+      );
+    }
 
-  module _ {x : ℕ} (w : Walk a list x) {end : ℕ} (limit : end ≡ limitAlong b) where
-    -- where the CTB ends, the loop does
-    pub walk-done : end ≤ x → x ≡ limitAlong a
-    walk-done h = let last : end ≡ limitAlong a = limit ∙ ap limitAlong same in omega (arith, w .upto)
+    pub turn : {p : Piece} → p ≡ pieceAt (axisAlong a list 1) (sidesAlong a) (a .place) x → Turn a list x p
+    unfolding pieceAt
+    turn {p} e =
+        let piece : PieceOf (axisAlong a list 1) (sidesAlong a) (a .place) p =
+        rw e record { from = omega (arith, w .from); upto = omega arith; begins = rw mul-one (w .begins here); is = refl } in
+        let facts = piece-facts _ regular-along (along .line) whole (along .ctbHigh) _ _ p piece in
+        record {
+          start = ap (λ (p : Piece). p .start) e;
+          piece = piece;
+          blocks = block-piece facts;
+          next = record {
+            from = omega (arith, facts .from, facts .numbers .filled);
+            upto = omega (arith, facts .upto);
+            begins = λ l. rw mul-one at (facts .next (omega arith));
+          };
+        }
 
-    module _ (h : x < end) where
-      here : x < limitAlong a
-      here = let last : end ≡ limitAlong a = limit ∙ ap limitAlong same in omega arith
-
-      -- a block of 4 samples is left, since pieces begin and CTBs end at multiples of 4
-      pub walk-block : BlockAt b x
-      walk-block = subst (λ (b : CtbAxis). BlockAt b x) (sym same) record {
-        low = omega (arith, along .regular .big);
-        high = along .ctb;
-        line = along .line .1;
-        size = along .size;
-        from = w .from;
-        upto = omega (
-          arith,
-          here,
-          begins4 (axisAlong a list 1) (along .regular) (along .line) (a .place) x (w .from) here x (w .begins here),
-          limit4 (axisAlong a list 1) (along .regular) (along .line) (a .place) x (w .from) here,
-        );
-      }
-
-      pub turn : {p : Piece} → p ≡ pieceAt (axisAlong b list 1) (sidesAlong b) (b .place) x → Turn a list x p
-      unfolding pieceAt
-      turn {p} found =
-          let e : p ≡ pieceAt (axisAlong a list 1) (sidesAlong a) (a .place) x =
-          found ∙ ap (λ (b : CtbAxis). pieceAt (axisAlong b list 1) (sidesAlong b) (b .place) x) same in
-          let piece : PieceOf (axisAlong a list 1) (sidesAlong a) (a .place) p =
-          rw e record {
-            from = omega (arith, w .from);
-            upto = omega (arith, here);
-            begins = rw mul-one (w .begins here);
-            is = refl;
-          } in
-          let facts = piece-facts _ (along .regular) (along .line) whole (along .ctb) _ _ p piece in
-          record {
-            start = ap (λ (p : Piece). p .start) e;
-            piece = piece;
-            blocks = block-piece facts;
-            next = record {
-              from = omega (arith, facts .from, facts .numbers .filled);
-              upto = omega (arith, facts .upto);
-              begins = λ l. rw mul-one at (facts .next (omega arith));
-            };
-          }
+-- the loop ends where the CTB does
+pub walk-done : {a : CtbAxis} {list : List ℕ} {x end : ℕ} → Walk a list x → end ≡ limitAlong a → end ≤ x → x ≡ limitAlong a
+walk-done w limit h = omega (arith, w .upto)
 
 -- the loop's measure
 pub turn-less : {a : CtbAxis} {list : List ℕ} {x end : ℕ} {p : Piece} → Turn a list x p → x < end → end - p .end < end - x
@@ -189,9 +151,9 @@ stacked columns x x′ = record {
 -- The loop writes from s, where the CTB begins, up to x: in the samples of a plane with this ratio to luma, from s / ratio up to x / ratio.
 
 -- nothing is written yet
-pub written-none : {part : ℕ → ℕ → ℕ → Bool} → Strips part → (ratio : ℕ) {v : ℕ → ℕ} {old : List ℕ} {s x : ℕ} → x ≡ s
-    → Paint old (part (s / ratio) (x / ratio)) v old
-written-none strips ratio {s = s} e = rw e (paint-none (strips .none (s / ratio)))
+pub written-none : {part : ℕ → ℕ → ℕ → Bool} → Strips part → (ratio : ℕ) (v : ℕ → ℕ) {old : List ℕ} {s x : ℕ} → x ≡ s
+    → old ≡ painted old (part (s / ratio) (x / ratio)) v
+written-none strips ratio v {s = s} e = rw e (paint-is (paint-none (strips .none (s / ratio))))
 
 -- positions in order are, in the samples of a plane, still in order
 div-order : (ratio a b : ℕ) → a ≤ b → a / ratio ≤ b / ratio
@@ -201,14 +163,14 @@ div-order (suc r) a b h =
 
 -- a turn writes its piece beside what is written
 pub written-turn : {a : CtbAxis} {list : List ℕ} {x : ℕ} {p : Piece} {part : ℕ → ℕ → ℕ → Bool} → Strips part → (ratio : ℕ)
-    → Walk a list x → Turn a list x p → {v : ℕ → ℕ} {old ys zs : List ℕ}
-    → Paint old (part (a .place * a .ctb / ratio) (x / ratio)) v ys → zs ≡ painted ys (part (p .start / ratio) (p .end / ratio)) v
-    → Paint old (part (a .place * a .ctb / ratio) (p .end / ratio)) v zs
-written-turn {x = x} {p} {part} strips ratio w t {v} P e =
+    → Walk a list x → Turn a list x p → (v : ℕ → ℕ) (old : List ℕ) {ys zs : List ℕ}
+    → ys ≡ painted old (part (a .place * a .ctb / ratio) (x / ratio)) v → zs ≡ painted ys (part (p .start / ratio) (p .end / ratio)) v
+    → zs ≡ painted old (part (a .place * a .ctb / ratio) (p .end / ratio)) v
+written-turn {x = x} {p} {part} strips ratio w t v old so-far e =
     let low = div-order ratio _ x (w .from) in
     let high = div-order ratio x (p .end) (omega (arith, t .start, t .blocks .numbers .filled)) in
-    paint-call (part (x / ratio) (p .end / ratio)) v P (rw (t .start) at e) (λ k h t. refl)
-    (λ k h. strips .more _ (x / ratio) (p .end / ratio) low high k)
+    paint-is (paint-call (part (x / ratio) (p .end / ratio)) v (paint-of so-far) (rw (t .start) at e) (λ k h t. refl)
+    (λ k h. strips .more _ (x / ratio) (p .end / ratio) low high k))
 
 -- the same piece, of an axis and sides given otherwise
 pub same-piece : {a b : Axis} {side given : Side → ClipCause} {q : ℕ} {p : Piece} → a ≡ b → given before ≡ side before

@@ -2,3 +2,4 @@
 pub mod Pieces
 pub mod Copies
 pub mod CtbRegions
+pub mod Walks

@@ -5,7 +5,8 @@ ghost use mathlib.Core.Option.{Option·getD};
 ghost use Prim.Native.Nat.{_*_, _≤_, _<_};
 ghost use Rattle.alf_spec.specs.Padding.{isNone};
 ghost use Rattle.alf_boundary.specs.Clips.{positionOf, axisAlong, sidesAlong};
-ghost use Rattle.alf_pieces.specs.Pieces.{limitAlong, BlockAt, pieceEnd, pieceAt, scaled as scaledBy};
+ghost use Rattle.alf_pieces.specs.Pieces.{limitAlong, BlockAt, pieceEnd, scaled as scaledBy};
+ghost use Rattle.alf_pieces.specs.Walks.{Along, Walk, Turn};
 use alf_boundary::clips::CtbAxis;
 use alf_boundary::clips::FoundClip;
 use alf_boundary::clips::ctb_start;
@@ -70,10 +71,10 @@ fn piece_end(axis: CtbAxis, boundaries: &[u16], x: u32) -> u32
     end
 }
 
-// The piece of the luma plane that begins at x. `turn` says what that is to the samples in it.
+// The piece of the luma plane that begins at x, in a walk over the pieces of the axis's CTB.
 pub fn piece_at(axis: CtbAxis, boundaries: &[u16], x: u32) -> Piece
-    requires { ⌜ BlockAt axis x ⌝ }
-    ensures { λ r. ⌜ r ≡ pieceAt (axisAlong axis (now (boundaries .entry)) 1) (sidesAlong axis) (axis .place) x ⌝ }
+    requires { ⌜ (Along axis (now boundaries)) × (Walk axis (now boundaries) x) × (x < limitAlong axis) ⌝ }
+    ensures { λ r. ⌜ Turn axis (now (boundaries .entry)) x r ⌝ }
 {
     let end = piece_end(axis, boundaries, x);
     let lower = find_clip(axis, boundaries, false, x);

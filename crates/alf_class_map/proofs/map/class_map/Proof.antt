@@ -15,7 +15,7 @@ use Rattle.alf_boundary.proofs.Tables.{tables-of}
 use Rattle.alf_pieces.specs.Copies.{area}
 use Rattle.alf_pieces.specs.CtbRegions.{beforeCtbIf}
 use Rattle.alf_lists.proofs.Painted.{Paint}
-use Rattle.alf_pieces.proofs.CtbPieces.{ctb-accepted}
+use Rattle.alf_pieces.proofs.CtbPieces.{ctb-accepted, column-pieces, row-pieces}
 use Rattle.alf_pieces.proofs.CtbRegions.{ctb-painted, ctbs-none, ctbs-next, ctb-passes, all-painted}
 use Rattle.alf_sides.proofs.PlannedSides.{planned-sides}
 use Rattle.alf_class_map.proofs.ClassInputs.{whole-blocks, accepted-classes, map-length, ctb-given}
@@ -70,36 +70,41 @@ loop-holds c =
     let known = gridded (c .before) in
     (omega arith, few-ctbs (known .grid .ensures), length-replicate area zero, length-replicate (4 * area) zero, ctbs-none _ _ _ _)
 
--- where the sides are planned, from a loop's turn; and where that turn begins, from where it has its CTB
+-- where the sides are planned, from a loop's turn
 abbrev planned : tie.At-loop Inv-loop μ-loop → tie.After-plan-sides Inv-loop μ-loop
 planned c = c .before .before
 
-abbrev turn : tie.After-sides3 Inv-loop μ-loop → tie.In-loop Inv-loop μ-loop
-turn c = c .before .before .before
-
 sides-at-requires : tie.Need-sides-at-requires Inv-loop μ-loop
 sides-at-requires c κs =
-    let loop = turn c .before in
-    omega (arith, planned loop .plan-sides .ensures .0, length-replicate 16384 zero, turn c .loop-test .taken, loop .loop .inv .1)
+    let turn : tie.In-loop Inv-loop μ-loop = search needs in
+    let loop = turn .before in
+    omega (arith, planned loop .plan-sides .ensures .0, length-replicate 16384 zero, turn .loop-test .taken, loop .loop .inv .1)
 
 class-ctb-requires : tie.Need-class-ctb-requires Inv-loop μ-loop
 class-ctb-requires c κs =
-    let sided = c .before .before .before in
-    let loop = turn (sided .before) .before in
+    let down : tie.After-row-axis Inv-loop μ-loop = search needs in
+    let across : tie.After-column-axis Inv-loop μ-loop = search needs in
+    let sided : tie.After-sides-at Inv-loop μ-loop = search needs in
+    let turn : tie.In-loop Inv-loop μ-loop = search needs in
+    let loop = turn .before in
     let known = gridded (planned loop) in
     let s = start (known .before) in
     let inv = loop .loop .inv in
-    ctb-given (layout s) (s .args .luma .now) (length (loop .loop .map)) (rw (inv .4 .len) (s .pre)) (known .grid .ensures)
-    (omega (arith, inv .2)) (omega (arith, inv .3)) (loop .loop .k) (turn (sided .before) .loop-test .taken)
+    rw (across .column-axis .ensures, down .row-axis .ensures)
+    (ctb-given (layout s) (s .args .luma .now) (length (loop .loop .map)) (rw (inv .4 .len) (s .pre)) (known .grid .ensures)
+    (omega (arith, inv .2)) (omega (arith, inv .3)) (sided .sides-at .result) (loop .loop .k) (turn .loop-test .taken))
 
 loop-again : tie.Need-loop-again Inv-loop μ-loop
 loop-again c =
-    let back = c .before .before in
-    let called = back .before .before in
-    let lent = called .before .before .before in
-    let sided = lent .before in
-    let test = turn (sided .before) .loop-test .taken in
-    let loop = turn (sided .before) .before in
+    let measured : tie.After-differences2 Inv-loop μ-loop = search needs in
+    let copied : tie.After-copy2 Inv-loop μ-loop = search needs in
+    let called : tie.After-class-ctb Inv-loop μ-loop = search needs in
+    let down : tie.After-row-axis Inv-loop μ-loop = search needs in
+    let across : tie.After-column-axis Inv-loop μ-loop = search needs in
+    let sided : tie.After-sides-at Inv-loop μ-loop = search needs in
+    let turn : tie.In-loop Inv-loop μ-loop = search needs in
+    let test = turn .loop-test .taken in
+    let loop = turn .before in
     let known = gridded (planned loop) in
     let s = start (known .before) in
     let l = layout s in
@@ -108,13 +113,15 @@ loop-again c =
     let inv = loop .loop .inv in
     let table = planned loop .plan-sides .last .1 .1 .1 .1 .1 .1 .1 .0 in
     let sides = planned-sides l grid table (planned loop .plan-sides .ensures .1 _ _) k test (sided .sides-at .ensures) in
+    let own = ctb-accepted (ok s) sides in
     let size = inv .4 .len ∙ map-length l (s .args .luma .now) _ (s .pre) in
+    let written = rw (across .column-axis .ensures, down .row-axis .ensures) at (called .class-ctb .ensures) in
     let done = ctb-painted l (ok s) 4 4 4 whole-blocks whole-blocks (loop .loop .map) size grid (classAt l (s .args .luma .now)) k
-    (called .class-ctb .ensures l (ctb-accepted (ok s) sides) refl refl) in (
+    (written l _ own (column-pieces own grid 4 refl) (row-pieces own grid 4 refl)) in (
       omega (arith, test),
       inv .1,
-      search needs,
-      search needs,
+      omega (arith, inv .2, copied .copy2 .given),
+      omega (arith, inv .3, measured .differences2 .given),
       ctbs-next l (classPlane l) every (classAt l (s .args .luma .now)) k (inv .4)
           (ctb-passes l (classPlane l) every (classAt l (s .args .luma .now)) k (loop .loop .map) refl done),
     )
@@ -133,6 +140,8 @@ class-map-spec =
     tie.close
     (tie.spec Inv-loop μ-loop grid-requires
     (λ c. omega (arith, few-ctbs (c .before .grid .ensures)))
-    (λ c. search needs) plan-sides-requires loop-holds (λ c. search needs) (λ c. search needs) (λ c. search needs) sides-at-requires
-    (λ c. search needs) (λ c. search needs) class-ctb-requires (λ c. search needs) (λ c. search needs) loop-again (λ c. search needs)
-    returns)
+    (λ c. search needs) plan-sides-requires loop-holds (λ c. search needs) sides-at-requires (λ c. search needs) (λ c κs. search needs)
+    (λ c. search needs) (λ c κs. search needs) (λ c. search needs) (λ c. search needs) class-ctb-requires
+    (λ c. let turn : tie.In-loop Inv-loop μ-loop = search needs in omega (arith, turn .loop-test .taken, turn .before .loop .inv .1))
+    (λ c. let turn : tie.In-loop Inv-loop μ-loop = search needs in omega (arith, turn .loop-test .taken))
+    loop-again (λ c. search needs) returns)

@@ -18,7 +18,7 @@ use Rattle.alf_taps.specs.Spread.{TapNumbers}
 use Rattle.alf_sides.specs.Planned.{SidesPlanned}
 use Rattle.alf_spec.specs.Filters.{operationOf}
 use Rattle.alf_ctb.specs.Filters.{sampleOf}
-use Rattle.alf_filter.specs.FilterTables.{FilterTables, tablesOf, TablesIn}
+use Rattle.alf_filter.specs.FilterTables.{FilterTables, givenTables, TablesIn}
 use Rattle.alf_filter.specs.FilteredCtbs.{isMarked}
 use Rattle.alf_filter.proofs.AcceptedFilters.{plane-size, same-picture}
 use Rattle.alf_filter.proofs.FilteredCtbs.{all-marked}
@@ -29,7 +29,7 @@ use Rattle.alf_filter.proofs.ctbs.filter_marked.Tie as tie
 abbrev Inv-loop : tie.InvT-loop
 Inv-loop filter picture grid virtual-columns virtual-rows slice-map slice-params bank ctb-params fixed-filters fixed-map luma chroma orders
     sides marks output₀ total copy₀ differences₀ taps₀ k₀ output copy differences taps k =
-    let t = tablesOf picture grid virtual-columns virtual-rows slice-map slice-params bank ctb-params fixed-filters fixed-map luma chroma
+    let t = givenTables picture grid virtual-columns virtual-rows slice-map slice-params bank ctb-params fixed-filters fixed-map luma chroma
     orders in
     (k ≤ grid .columns * grid .rows) × (grid .columns * grid .rows ≤ 16384) × (length copy ≡ area) × (length differences ≡ 4 * area)
     × (length taps ≡ 3072) × TapNumbers taps × (length output ≡ length output₀)

@@ -1,6 +1,6 @@
 -- `worked_examples::positions::show_corner` meets its contract: the picture is accepted, the tables have its grid's lengths, and the copy
 -- of the last CTB's one piece is of 14 by 14 samples. Assumes nothing.
-use mathlib.Core.Path.{_≡_, refl, sym, subst}
+use mathlib.Core.Path.{_≡_, refl, sym}
 use mathlib.Core.Bool.{true, false}
 use mathlib.Core.List.{[], _∷_}
 use Prim.Native.Nat.{_*_, _≤_, _<_}
@@ -16,12 +16,13 @@ use Rattle.alf_spec.specs.Geometry.{ctbSize}
 use Rattle.alf_spec.specs.Faults.{pictureSizeValid, ctbSizeValid, bitDepthValid, virtualListValid}
 use Rattle.alf_math.specs.Grids.{ctbsAlong, GridOf, AcceptedPicture}
 use Rattle.alf_boundary.specs.declared.clips.CtbAxis.{CtbAxis}
-use Rattle.alf_boundary.specs.Clips.{columnAxis, rowAxis, axisAlong, sidesAlong}
+use Rattle.alf_boundary.specs.Clips.{columnAxis, rowAxis}
 use Rattle.alf_boundary.specs.Tables.{MembershipTables}
 use Rattle.alf_pieces.specs.declared.pieces.Piece.{Piece}
-use Rattle.alf_pieces.specs.Pieces.{limitAlong, BlockAt, pieceAt, PieceIn}
+use Rattle.alf_pieces.specs.Pieces.{limitAlong, PieceIn}
+use Rattle.alf_pieces.specs.Walks.{Along, Walk, Turn}
 use Rattle.alf_pieces.specs.Copies.{pitch}
-use Rattle.alf_pieces.proofs.PieceWalk.{walk-luma, Along, columns-along, rows-along, Walk, walk-start, walk-block, turn}
+use Rattle.alf_pieces.proofs.PieceWalk.{walk-luma, columns-along, rows-along, walk-start}
 use Rattle.worked_examples.proofs.positions.show_corner.Statement.{statement}
 use Rattle.worked_examples.proofs.positions.show_corner.Tie as tie
 
@@ -79,24 +80,19 @@ record Last (p : Piece) : Type 0 where
   is : PieceIn 40 p
   begins : p .start ≡ 32
 
--- an axis through the last CTB, which code holds as b
-module _ {a b : CtbAxis} (along : Along a []) (same : b ≡ a) (begins : a .place * a .ctb ≡ 32) (size : a .size ≡ 40)
-    (ctb : a .ctb ≡ 32) where
-  walked : Walk a [] 32
-  walked =
-      let first : 32 ≡ a .place * a .ctb = omega arith in
-      walk-start along same (subst (λ (b : CtbAxis). 32 ≡ b .place * b .ctb) (sym same) first)
+-- an axis through the last CTB: the walk over its pieces begins at 32
+record LastCtb (a : CtbAxis) : Type 0 where
+  along : Along a []
+  walk : Walk a [] 32
+  ahead : 32 < limitAlong a
+  size : a .size ≡ 40
 
-  ahead : 32 < limitAlong b
-  ahead = let inside : 32 < limitAlong a = omega arith in subst (λ (b : CtbAxis). 32 < limitAlong b) (sym same) inside
+last-ctb : {a : CtbAxis} → Along a [] → a .place * a .ctb ≡ 32 → a .size ≡ 40 → a .ctb ≡ 32 → LastCtb a
+last-ctb along begins size ctb = record { along = along; walk = walk-start along (sym begins); ahead = omega arith; size = size }
 
-  block : BlockAt b 32
-  block = walk-block along same walked refl ahead
-
-  last : {p : Piece} → p ≡ pieceAt (axisAlong b [] 1) (sidesAlong b) (b .place) 32 → Last p
-  last e =
-      let t = turn along same walked refl ahead e in
-      record { is = rw size at (t .blocks .numbers); begins = t .start }
+-- and finds its last piece
+last : {a : CtbAxis} {p : Piece} → LastCtb a → Turn a [] 32 p → Last p
+last l t = record { is = rw (l .size) at (t .blocks .numbers); begins = t .start }
 
 -- the picture is accepted
 picture-is : {g : Grid} → GridOf picture g → AcceptedPicture picture g
@@ -104,45 +100,32 @@ unfolding bitDepthValid
 picture-is h = record { grid = h; sizes = sizes; ctbSize = log2; depth = refl }
 
 -- its axes through the last CTB
-columns-on : (g : Grid) → GridOf picture g → (s : Sides) → Along (columnAxis picture g s 1) []
-columns-on g h s = columns-along (picture-is h) s 1 no-boundaries (omega (arith, side g h))
+columns-on : {a : CtbAxis} (g : Grid) → GridOf picture g → (s : Sides) → a ≡ columnAxis picture g s 1 → LastCtb a
+columns-on g h s same =
+    rw same (last-ctb (columns-along (picture-is h) s 1 no-boundaries (omega (arith, side g h))) (omega (arith, side g h)) refl (side g h))
 
-rows-on : (g : Grid) → GridOf picture g → (s : Sides) → Along (rowAxis picture g s 4 1) []
-rows-on g h s = rows-along (picture-is h) s 1 walk-luma no-boundaries (omega (arith, side g h))
+rows-on : {a : CtbAxis} (g : Grid) → GridOf picture g → (s : Sides) → a ≡ rowAxis picture g s 4 1 → LastCtb a
+rows-on g h s same =
+    rw same (last-ctb (rows-along (picture-is h) s 1 walk-luma no-boundaries (omega (arith, side g h))) (omega (arith, side g h)) refl
+    (side g h))
 
--- where the grid is known, seen from the axis of columns
-abbrev grid-known : tie.After-column-axis → tie.After-grid
-grid-known c = let lent = c .before .before .before in let tables = lent .before .before .before in tables .before
+columns-last : (c : tie.After-column-axis) → LastCtb (c .column-axis .result)
+columns-last c =
+    let known : tie.After-grid = search needs in
+    let sided : tie.After-sides-of = search needs in
+    columns-on (known .grid .result) (known .grid .ensures) (sided .sides-of .result) (c .column-axis .ensures)
 
--- the axis of columns, seen from that of rows
-abbrev across : tie.After-row-axis → tie.After-column-axis
-across c = c .before .before .before
-
-columns-block : (c : tie.After-column-axis) → BlockAt (c .column-axis .result) 32
-columns-block c =
-    let g = grid-known c .grid in
-    block (columns-on (g .result) (g .ensures) (c .before .sides-of .result)) (c .column-axis .ensures)
-    (omega (arith, side (g .result) (g .ensures))) refl (side (g .result) (g .ensures))
-
-rows-block : (c : tie.After-row-axis) → BlockAt (c .row-axis .result) 32
-rows-block c =
-    let g = grid-known (across c) .grid in
-    block (rows-on (g .result) (g .ensures) (across c .before .sides-of .result)) (c .row-axis .ensures)
-    (omega (arith, side (g .result) (g .ensures))) refl (side (g .result) (g .ensures))
+rows-last : (c : tie.After-row-axis) → LastCtb (c .row-axis .result)
+rows-last c =
+    let known : tie.After-grid = search needs in
+    let sided : tie.After-sides-of = search needs in
+    rows-on (known .grid .result) (known .grid .ensures) (sided .sides-of .result) (c .row-axis .ensures)
 
 last-columns : (c : tie.After-piece-at) → Last (c .piece-at .result)
-last-columns c =
-    let k = c .before .before in
-    let g = grid-known k .grid in
-    last (columns-on (g .result) (g .ensures) (k .before .sides-of .result)) (k .column-axis .ensures)
-    (omega (arith, side (g .result) (g .ensures))) refl (side (g .result) (g .ensures)) (c .piece-at .ensures)
+last-columns c = last (columns-last (c .before .before)) (c .piece-at .ensures)
 
 last-rows : (c : tie.After-piece-at2) → Last (c .piece-at2 .result)
-last-rows c =
-    let k = c .before .before in
-    let g = grid-known (across k) .grid in
-    last (rows-on (g .result) (g .ensures) (across k .before .sides-of .result)) (k .row-axis .ensures)
-    (omega (arith, side (g .result) (g .ensures))) refl (side (g .result) (g .ensures)) (c .piece-at2 .ensures)
+last-rows c = last (rows-last (c .before .before)) (c .piece-at2 .ensures)
 
 -- 8 samples, and the margins
 pitch-small : {p : Piece} → Last p → pitch p ≤ 14
@@ -168,9 +151,9 @@ show-corner-spec =
     let high = rows (g .result) (g .ensures) in
     (g .ensures, tables (g .result) (g .ensures), omega arith, omega arith))
     (λ c κs. search needs) (λ c. search needs) (λ c. search needs)
-    (λ c κs. columns-block (c .before))
+    (λ c κs. let l = columns-last (c .before) in (l .along, l .walk, l .ahead))
     (λ c κs. search needs) (λ c. search needs) (λ c. search needs)
-    (λ c κs. rows-block (c .before))
+    (λ c κs. let l = rows-last (c .before) in (l .along, l .walk, l .ahead))
     (λ c. search needs) (λ c κs. search needs) (λ c. search needs) (λ c. search needs)
     (λ c κs.
     let drawn = c .before .before .before in
