@@ -25,6 +25,7 @@ use alf_math::grid::sub_height;
 use alf_math::grid::sub_width;
 use alf_pieces::copies::copy_piece;
 use alf_pieces::copies::extent;
+use alf_pieces::copies::plane_index;
 use alf_pieces::pieces::Piece;
 use alf_spec::ChromaRows;
 use alf_spec::Grid;
@@ -86,14 +87,6 @@ fn filter_row(
 {
     let s = chroma_starts(n + 6, t, offsets);
     chroma_row(copy, n, s, taps, offsets.shift, depth, output, from);
-}
-
-// The index, in a plane of so many columns, of the sample at column x and row y.
-fn plane_index(width: u32, y: u32, x: u32) -> usize
-    requires { ⌜ (width ≤ 4096) × (y ≤ 4096) ⌝ }
-    ensures { λ r. ⌜ r ≡ y * width + x ⌝ }
-{
-    y as usize * width as usize + x as usize
 }
 
 // The filtered samples of a piece, row by row, from its copy.

@@ -17,11 +17,11 @@ use Rattle.alf_spec.proofs.Ratios.{Ratio, whole, half, chroma-ratios, le-own, l
 use Rattle.alf_pieces.specs.declared.pieces.Piece.{Piece}
 use Rattle.alf_lists.specs.Regions.{between}
 use Rattle.alf_pieces.specs.Pieces.{BlockPiece}
-use Rattle.alf_pieces.specs.Copies.{extent, pitch}
+use Rattle.alf_pieces.specs.Copies.{extent, pitch, copyLength}
 use Rattle.alf_lists.proofs.Regions.{run-facts, row-of}
+use Rattle.alf_cross.specs.declared.kernel.CrossRow.{CrossRow}
 use Rattle.alf_cross.specs.Taps.{splitIndex, last, CrossReads, seven, splitTaps, splitSum, rowSample, crossStartsOf}
-use Rattle.alf_cross.specs.Taps.{offsetSample}
-use Rattle.alf_cross.specs.Pieces.{SmallCopy, crossRowsOf, splitRead, pieceSum, splitCrossAt}
+use Rattle.alf_cross.specs.Pieces.{SmallCopy, crossRowsOf, crossRowOf, splitRead, pieceSum, splitCrossAt}
 use Rattle.alf_cross.proofs.SplitColumns.{index-next}
 
 -- ---- a piece of whole blocks, in the samples of a plane with this ratio to luma
@@ -126,21 +126,29 @@ module _ (p : Picture) {columns rows : Piece} (across : BlockPiece (p .width) co
       mul-le-mul-right (p .width / subWidth p) (omega (arith, r .upto)) in
       omega (arith, c .last, c .upto)
 
-  -- its samples are those of the split copy
-  pub row-value : (ctb : ℕ) (filters : List ℤ) (split chroma : List ℕ) (r : CrossRows)
-      → r ≡ crossRowsOf (p .height) ctb (v * subHeight p) → (k : ℕ)
-      → let from = v * (p .width / subWidth p) + columns .start / subWidth p in
-      between from (extent columns / subWidth p) k ≡ true
-      → offsetSample split (pitch columns) (v * subHeight p - rows .start + 3) r (subWidth p) filters (p .«bit_depth») chroma from k
-      ≡ splitCrossAt p ctb filters split chroma columns rows k
-  unfolding rowSample splitCrossAt
-  row-value ctb filters split chroma r is k t =
-      let from = v * (p .width / subWidth p) + columns .start / subWidth p in
-      let c = own (subWidth p) (chroma-ratios p .0) across in
-      let f = run-facts from (extent columns / subWidth p) k t in
-      let e = row-of (p .width / subWidth p) v k (omega arith) (omega (arith, c .last, c .upto)) in
-      let x : k % (p .width / subWidth p) ≡ columns .start / subWidth p + (k - from) = omega arith in
-      let column : (columns .start / subWidth p + (k - from)) * subWidth p - columns .start + 3 ≡ subWidth p * (k - from) + 3 =
-      omega (arith, c .start) in
-      rw (e .0, ← is, x, column) (ap (corrected (p .«bit_depth») (getD chroma k 0))
-      (sum-same split columns (subWidth p) (chroma-ratios p .0) r (v * subHeight p - rows .start + 3) (k - from) filters))
+  module _ (ctb : ℕ) where
+    abbrev row : CrossRow
+    row = crossRowOf p ctb columns rows v
+
+    -- its taps lie in the split copy
+    pub row-inside : {split : List ℕ} → SmallCopy split (copyLength columns rows) → CrossReads split (row .starts) (row .n)
+    row-inside held =
+        row-reads (v * subHeight p - rows .start + 3) (pitch columns) (subWidth p) (pitch rows) _ (small-rows _ _) held
+        (omega (arith, luma-row, down .numbers))
+        (columns-fit (subWidth p) 0 (crossRowsOf (p .height) ctb (v * subHeight p)) (chroma-ratios p .0) across)
+
+    -- its samples are those of the split copy
+    pub row-value : (filters : List ℤ) (split chroma : List ℕ) (k : ℕ) → between (row .from) (row .n) k ≡ true
+        → rowSample split (row .starts) (seven filters) (p .«bit_depth») chroma (row .from) k
+        ≡ splitCrossAt p ctb filters split chroma columns rows k
+    unfolding rowSample splitCrossAt
+    row-value filters split chroma k t =
+        let c = own (subWidth p) (chroma-ratios p .0) across in
+        let f = run-facts (row .from) (row .n) k t in
+        let e = row-of (p .width / subWidth p) v k (omega arith) (omega (arith, c .last, c .upto)) in
+        let x : k % (p .width / subWidth p) ≡ columns .start / subWidth p + (k - row .from) = omega arith in
+        let column : (columns .start / subWidth p + (k - row .from)) * subWidth p - columns .start + 3 ≡ subWidth p * (k - row .from) + 3 =
+        omega (arith, c .start) in
+        rw (e .0, x, column) (ap (corrected (p .«bit_depth») (getD chroma k 0))
+        (sum-same split columns (subWidth p) (chroma-ratios p .0) (crossRowsOf (p .height) ctb (v * subHeight p))
+        (v * subHeight p - rows .start + 3) (k - row .from) filters))

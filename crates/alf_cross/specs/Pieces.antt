@@ -14,8 +14,9 @@ use Rattle.alf_spec.specs.Parameters.{crossAps, crossIndex, crossCoeff}
 use Rattle.alf_spec.specs.CrossComponent.{crossRows, crossTaps, crossSum, corrected}
 use Rattle.alf_math.specs.Grids.{AcceptedPicture}
 use Rattle.alf_pieces.specs.declared.pieces.Piece.{Piece}
-use Rattle.alf_pieces.specs.Copies.{pitch, area}
-use Rattle.alf_cross.specs.Taps.{splitIndex}
+use Rattle.alf_pieces.specs.Copies.{extent, pitch, area}
+use Rattle.alf_cross.specs.declared.kernel.CrossRow.{CrossRow}
+use Rattle.alf_cross.specs.Taps.{splitIndex, crossStartsOf}
 
 -- an accepted picture and its grid, a chroma plane, the coefficients, and room for the plane that is written
 pub record CrossPlanes (p : Picture) (g : Grid) (chroma : List ℕ) (filters : List ℤ) (output : ℕ) : Type 0 where
@@ -47,6 +48,14 @@ pub record CrossFilter (i : Input) (c : Ctb) (component : ℕ) (filters : List �
 -- Table 47 at luma row y
 abbrev pub crossRowsOf : ℕ → ℕ → ℕ → CrossRows
 crossRowsOf height ctb y = crossRows (lineRule (axisOf height ctb [] 4 1) y) (ctb - y % ctb)
+
+-- a piece's samples in row v of the chroma plane; its luma row is row y − start + 3 of the copy, since the margin has 3 rows
+abbrev pub crossRowOf : Picture → ℕ → Piece → Piece → ℕ → CrossRow
+crossRowOf p ctb columns rows v = record {
+  starts = crossStartsOf (pitch columns) (v * subHeight p - rows .start + 3) (crossRowsOf (p .height) ctb (v * subHeight p)) (subWidth p);
+  from = v * (p .width / subWidth p) + columns .start / subWidth p;
+  n = extent columns / subWidth p;
+}
 
 -- the sample at column i and row j of the copy, from the split copy
 abbrev pub splitRead : List ℕ → Piece → ℕ → ℕ × ℕ → ℕ

@@ -79,7 +79,3 @@ crossStartsOf pitch j r step = record {
   own = splitIndex pitch step 3;
   right = splitIndex pitch step 4;
 }
-
--- the corrected sample, as in `rowSample`, at index k of the plane, where the row begins at index `from`
-abbrev pub offsetSample : List ℕ → ℕ → ℕ → CrossRows → ℕ → List ℤ → ℕ → List ℕ → ℕ → ℕ → ℕ
-offsetSample split pitch j r step f = rowSample split (crossStartsOf pitch j r step) (seven f)

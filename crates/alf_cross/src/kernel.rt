@@ -37,6 +37,13 @@ pub struct CrossStarts {
     pub right: usize,
 }
 
+// A row of n chroma samples, which stand in their plane from index `from` on, and what their taps read.
+pub struct CrossRow {
+    pub starts: CrossStarts,
+    pub from: usize,
+    pub n: usize,
+}
+
 // A sum with one tap more: coefficient f at the sample at row + at + column of the split copy. The difference of two samples fits 16 bits.
 fn cross_tap(
     sum: i32,

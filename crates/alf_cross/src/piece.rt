@@ -1,6 +1,6 @@
 // The cross-component filter of a piece of a CTB.
 ghost use mathlib.Core.Path.{_≡_};
-ghost use Prim.Native.Nat.{ℕ, _+_, _-_, _*_, _/_, _≤_, _<_};
+ghost use Prim.Native.Nat.{ℕ, _/_, _≤_, _<_};
 ghost use lib.ListN.{length};
 ghost use Rattle.alf_spec.specs.Lists.{painted};
 ghost use Rattle.alf_spec.specs.Input.{Input};
@@ -9,65 +9,46 @@ ghost use Rattle.alf_spec.specs.Boundary.{columnSide, rowSide};
 ghost use Rattle.alf_spec.specs.CrossComponent.{crossSample};
 ghost use Rattle.alf_spec.specs.Process.{atIndex};
 ghost use Rattle.alf_spec.specs.declared.Ctb.{Ctb};
-ghost use Rattle.alf_lists.specs.Regions.{between, inRect};
+ghost use Rattle.alf_math.specs.Grids.{AcceptedPicture};
+ghost use Rattle.alf_lists.specs.Regions.{inRect};
 ghost use Rattle.alf_pieces.specs.Pieces.{PieceOf, BlockPiece, CtbOf};
-ghost use Rattle.alf_pieces.specs.Copies.{extent as extentOf, copyLength};
-ghost use Rattle.alf_cross.specs.Pieces.{CrossPlanes, CrossWork, SmallCopy, CrossFilter, splitCrossAt};
-use crate::rows::offset_row;
+ghost use Rattle.alf_pieces.specs.Copies.{copyLength};
+ghost use Rattle.alf_cross.specs.Pieces.{CrossPlanes, CrossWork, SmallCopy, CrossFilter, crossRowOf, splitCrossAt};
+use crate::kernel::CrossRow;
+use crate::rows::correct_row;
+use crate::rows::cross_starts;
 use crate::rows::rows_at;
 use crate::split::split_rows;
 use alf_math::grid::sub_height;
 use alf_math::grid::sub_width;
 use alf_pieces::copies::copy_piece;
 use alf_pieces::copies::extent;
+use alf_pieces::copies::plane_index;
 use alf_pieces::pieces::Piece;
 use alf_spec::Grid;
 use alf_spec::Picture;
 use alf_spec::Sides;
 
-// The index, in row v of the chroma plane, of the sample at luma column x.
-fn chroma_index(width: u32, step: u32, v: u32, x: u32) -> usize
-    requires { ⌜ (width ≤ 4096) × (0 < step) × (v ≤ 4096) × (x ≤ 4096) ⌝ }
-    ensures { λ r. ⌜ r ≡ v * (width / step) + x / step ⌝ }
-{
-    v as usize * (width / step) as usize + (x / step) as usize
-}
-
-// The piece's samples in row v of the chroma plane, from the piece's split copy.
-fn piece_row(
-    picture: Picture,
-    grid: Grid,
-    columns: Piece,
-    rows: Piece,
-    split: &[u16],
-    chroma: &[u16],
-    filters: &[i16],
-    v: u32,
-    output: &mut [u16],
-)
-    requires { ⌜ (CrossPlanes picture grid (now chroma) (now filters) (length (now output)))
-        × (BlockPiece (picture .width) columns) × (BlockPiece (picture .height) rows) × (SmallCopy (now split) (copyLength columns rows))
+// The piece's samples in row v of the chroma plane.
+fn piece_row(picture: Picture, grid: Grid, columns: Piece, rows: Piece, v: u32) -> CrossRow
+    requires { ⌜ (AcceptedPicture picture grid) × (BlockPiece (picture .width) columns) × (BlockPiece (picture .height) rows)
         × (rows .start / subHeight picture ≤ v) × (v < rows .end / subHeight picture) ⌝ }
-    ensures { λ _. ⌜ now (output .exit) ≡ painted (now (output .entry))
-        (between (v * (picture .width / subWidth picture) + columns .start / subWidth picture) (extentOf columns / subWidth picture))
-        (splitCrossAt picture (grid .ctb) (now (filters .entry)) (now (split .entry)) (now (chroma .entry)) columns rows) ⌝ }
+    ensures { λ r. ⌜ r ≡ crossRowOf picture (grid .ctb) columns rows v ⌝ }
 {
     let step = sub_width(picture);
     let y = v * sub_height(picture);
     let width = extent(columns);
-    offset_row(
-        split,
-        width + 6,
-        (y - rows.start) as usize + 3,
-        rows_at(picture.height, grid.ctb, y),
-        step as usize,
-        filters,
-        picture.bit_depth as u32,
-        chroma,
-        chroma_index(picture.width, step, v, columns.start),
-        width / step as usize,
-        output,
-    );
+    let offsets = rows_at(picture.height, grid.ctb, y);
+    CrossRow {
+        starts: cross_starts(
+            width + 6,
+            (y - rows.start) as usize + 3,
+            offsets,
+            step as usize,
+        ),
+        from: plane_index(picture.width / step, v, columns.start / step),
+        n: width / step as usize,
+    }
 }
 
 // The piece's samples, from its split copy.
@@ -89,21 +70,13 @@ fn piece_rows(
         (rows .start / subHeight picture) (rows .end / subHeight picture))
         (splitCrossAt picture (grid .ctb) (now (filters .entry)) (now (split .entry)) (now (chroma .entry)) columns rows) ⌝ }
 {
+    let depth = picture.bit_depth as u32;
     let ratio = sub_height(picture);
     let end = rows.end / ratio;
     let mut v = rows.start / ratio;
     while v < end {
-        piece_row(
-            picture,
-            grid,
-            columns,
-            rows,
-            split,
-            chroma,
-            filters,
-            v,
-            output,
-        );
+        let row = piece_row(picture, grid, columns, rows, v);
+        correct_row(split, row, filters, depth, chroma, output);
         v += 1;
     }
 }

@@ -6,8 +6,9 @@ ghost use lib.ListN.{length, getD};
 ghost use Rattle.alf_spec.specs.Lists.{painted};
 ghost use Rattle.alf_spec.specs.CrossComponent.{crossRows};
 ghost use Rattle.alf_lists.specs.Regions.{between};
-ghost use Rattle.alf_cross.specs.Taps.{CrossReads, crossStartsOf, offsetSample};
+ghost use Rattle.alf_cross.specs.Taps.{CrossReads, crossStartsOf, seven, rowSample};
 ghost use Rattle.alf_cross.specs.Pieces.{crossRowsOf};
+use crate::kernel::CrossRow;
 use crate::kernel::CrossStarts;
 use crate::kernel::cross_row;
 use crate::split::column_index;
@@ -38,7 +39,7 @@ pub(crate) fn rows_at(height: u32, ctb: u32, y: u32) -> CrossRows
 }
 
 // What the taps of samples read whose luma row is row j of the copy, where a row of the copy has `pitch` samples.
-fn cross_starts(pitch: usize, j: usize, r: CrossRows, step: usize) -> CrossStarts
+pub(crate) fn cross_starts(pitch: usize, j: usize, r: CrossRows, step: usize) -> CrossStarts
     requires { ⌜ (pitch ≤ 134) × (r .y1 ≤ j) × (j + r .y1 ≤ 134) × (j + r .y2 ≤ 134) ⌝ }
     ensures { λ result. ⌜ result ≡ crossStartsOf pitch j r step ⌝ }
 {
@@ -55,30 +56,25 @@ fn cross_starts(pitch: usize, j: usize, r: CrossRows, step: usize) -> CrossStart
     }
 }
 
-// n samples of a chroma plane, from index `from` on, whose luma row is row j of the copy.
-pub(crate) fn offset_row(
+// The samples of a row, corrected.
+pub(crate) fn correct_row(
     split: &[u16],
-    pitch: usize,
-    j: usize,
-    offsets: CrossRows,
-    step: usize,
+    r: CrossRow,
     filters: &[i16],
     depth: u32,
     chroma: &[u16],
-    from: usize,
-    n: usize,
     output: &mut [u16],
 )
-    requires { ⌜ (CrossReads (now split) (crossStartsOf pitch j offsets step) n) × (pitch ≤ 134)
-        × (offsets .y1 ≤ j) × (offsets .y1 ≤ offsets .y2) × (j + offsets .y2 ≤ 134)
-        × (7 ≤ length (now filters)) × ((i : ℕ) → natAbs (getD (now filters) i (pos 0)) ≤ 128) × (1 ≤ depth) × (depth ≤ 12)
-        × ((k : ℕ) → getD (now chroma) k 0 < 4096) × (from + n ≤ length (now chroma)) × (from + n ≤ length (now output)) ⌝ }
-    ensures { λ _. ⌜ now (output .exit) ≡ painted (now (output .entry)) (between from n)
-        (offsetSample (now (split .entry)) pitch j offsets step (now (filters .entry)) depth (now (chroma .entry)) from) ⌝ }
+    requires { ⌜ (CrossReads (now split) (r .starts) (r .n)) × (7 ≤ length (now filters))
+        × ((i : ℕ) → natAbs (getD (now filters) i (pos 0)) ≤ 128) × (1 ≤ depth) × (depth ≤ 12)
+        × ((k : ℕ) → getD (now chroma) k 0 < 4096) × (r .from + r .n ≤ length (now chroma)) × (r .from + r .n ≤ length (now output)) ⌝ }
+    ensures { λ _. ⌜ now (output .exit) ≡ painted (now (output .entry)) (between (r .from) (r .n))
+        (rowSample (now (split .entry)) (r .starts) (seven (now (filters .entry))) depth (now (chroma .entry)) (r .from)) ⌝ }
 {
+    let starts = r.starts;
     cross_row(
         split,
-        cross_starts(pitch, j, offsets, step),
+        starts,
         filters[0],
         filters[1],
         filters[2],
@@ -88,8 +84,8 @@ pub(crate) fn offset_row(
         filters[6],
         depth,
         chroma,
-        from,
-        n,
+        r.from,
+        r.n,
         output,
     );
 }

@@ -65,6 +65,14 @@ fn row_limit(columns: Piece, rows: Piece, sides: Sides, v: usize) -> usize
     }
 }
 
+// The index, in a plane of so many columns, of the sample at column x and row y.
+pub fn plane_index(width: u32, y: u32, x: u32) -> usize
+    requires { ⌜ (width ≤ 4096) × (y ≤ 4096) ⌝ }
+    ensures { λ r. ⌜ r ≡ y * width + x ⌝ }
+{
+    y as usize * width as usize + x as usize
+}
+
 // n samples from `from` on, to `at`.
 pub fn copy_run(plane: &[u16], from: usize, n: usize, copy: &mut [u16], at: usize)
     requires { ⌜ (from + n ≤ length (now plane)) × (at + n ≤ length (now copy)) ⌝ }

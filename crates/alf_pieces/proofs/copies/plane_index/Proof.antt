@@ -1,9 +1,9 @@
--- `alf_chroma::piece::plane_index` meets its contract. Assumes nothing.
+-- `alf_pieces::copies::plane_index` meets its contract. Assumes nothing.
 use Prim.Native.Nat.{_*_, _≤_}
 use native.Mathlib.Nat.{mul-le-mul}
 use borrow.Author.Needs.{needs}
-use Rattle.alf_chroma.proofs.piece.plane_index.Statement.{statement}
-use Rattle.alf_chroma.proofs.piece.plane_index.Tie as tie
+use Rattle.alf_pieces.proofs.copies.plane_index.Statement.{statement}
+use Rattle.alf_pieces.proofs.copies.plane_index.Tie as tie
 
 few : (s : tie.Start) → s .args .y * s .args .width ≤ 16777216
 few s = mul-le-mul (s .pre .1) (s .pre .0)
