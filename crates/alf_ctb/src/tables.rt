@@ -10,13 +10,16 @@ ghost use Rattle.alf_params.specs.Tables.{CtbTables, TablesGiven};
 ghost use Rattle.alf_ctb.specs.Filters.{isOn, OwnFilter};
 ghost use Rattle.alf_ctb.specs.FilterWork.{Numbers};
 ghost use Rattle.alf_ctb.specs.Tables.{ComponentOf, FixedGiven, FixedSame, Switched};
+use alf_params::FIXED_SETS;
 use alf_params::chroma_on;
 use alf_params::chroma_run;
 use alf_params::cross_on;
 use alf_params::cross_run;
+use alf_params::load_fixed;
 use alf_params::load_from_aps;
-use alf_params::load_luma;
 use alf_params::luma_on;
+use alf_params::luma_run;
+use alf_params::luma_set;
 use alf_spec::Filter;
 
 // The flag or index of the CTB at address k.
@@ -56,17 +59,12 @@ pub fn load(
 {
     match filter {
         Filter::Luma => {
-            load_luma(
-                depth,
-                k,
-                slice_map,
-                slice_params,
-                bank,
-                ctb_params,
-                fixed_filters,
-                fixed_map,
-                filters,
-            );
+            let set = luma_set(k, ctb_params);
+            if set < FIXED_SETS {
+                load_fixed(depth, set, fixed_filters, fixed_map, filters);
+            } else {
+                load_from_aps(luma_run(set), k, slice_map, slice_params, bank, filters);
+            }
         }
         Filter::Chroma(component) => {
             let run = chroma_run(component, k, ctb_params);

@@ -21,7 +21,7 @@ use Rattle.alf_lists.proofs.Regions.{in-run, run-facts, order}
 use Rattle.alf_params.specs.declared.filters.ApsRun.{ApsRun}
 use Rattle.alf_params.specs.Filters.{LumaFilters, FilterNumbers, ChromaFilter}
 use Rattle.alf_params.specs.Tables.{sliceNumber, ctbNumber, CtbTables, FixedTables, TablesGiven, FixedOf}
-use Rattle.alf_params.specs.Numbers.{copiedFrom, FromAps, chromaRun, crossRun, fixedNumber}
+use Rattle.alf_params.specs.Numbers.{copiedFrom, FromAps, lumaRun, chromaRun, crossRun, fixedNumber}
 use Rattle.alf_params.proofs.TableNumbers.{own-number, slice-number, bank-number}
 use Rattle.alf_params.proofs.BankRanges.{number-in, piece-of, luma-coefficient, luma-clip, chroma-coefficient, chroma-clip}
 use Rattle.alf_params.proofs.BankRanges.{cross-coefficient}
@@ -91,7 +91,7 @@ module _ {sliceMap sliceParams ctbParams : List ℕ} {bank : List ℤ} {k : ℕ}
 
   -- the filters of one of the slice's luma APSs
   module _ {set : ℕ} (v : set ≡ ctbNumber ctbParams k 3) (late : 16 ≤ set)
-      (P : FromAps sliceMap sliceParams bank k (record { name = 1 + (set - 16); first = 0; count = 600 }) xs ys) where
+      (P : FromAps sliceMap sliceParams bank k (lumaRun set) xs ys) where
     pub aps-numbers : FilterNumbers ys
     aps-numbers = record {
       count = P .filled .len ∙ room;

@@ -27,6 +27,10 @@ pub record FromAps (sliceMap sliceParams : List ℕ) (bank : List ℤ) (k : ℕ)
   pub filled : Filled (pos 0) old (between 0 (r .count))
       (copiedFrom bank (752 * sliceNumber sliceMap sliceParams k (r .name) + r .first) 0) new
 
+-- a set of luma filters that is not fixed: 12 coefficients and 12 clips for each of 25 classes
+abbrev pub lumaRun : ℕ → ApsRun
+lumaRun set = record { name = 1 + (set - 16); first = 0; count = 600 }
+
 -- an alternative of the chroma filter: 6 coefficients and 6 clips
 abbrev pub chromaRun : ℕ → ApsRun
 chromaRun alternative = record { name = 8; first = 600 + 12 * alternative; count = 12 }

@@ -3,13 +3,10 @@ ghost use mathlib.Core.Path.{_≡_};
 ghost use Prim.Native.Nat.{ℕ, _+_, _*_, _^_, _≤_, _<_};
 ghost use lib.IntN.{pos, natAbs};
 ghost use lib.ListN.{length, getD};
-ghost use Rattle.alf_spec.specs.declared.Ctb.{Ctb};
-ghost use Rattle.alf_spec.specs.Input.{Input};
 ghost use Rattle.alf_lists.specs.Regions.{between};
 ghost use Rattle.alf_lists.specs.Filled.{Filled};
-ghost use Rattle.alf_params.specs.Filters.{LumaFilters, FilterNumbers};
-ghost use Rattle.alf_params.specs.Tables.{ctbNumber, SliceTables, CtbTables, FixedTables, TablesGiven, FixedOf};
-ghost use Rattle.alf_params.specs.Numbers.{copiedFrom, RunInAps, FromAps, chromaRun, crossRun, fixedNumber};
+ghost use Rattle.alf_params.specs.Tables.{ctbNumber, SliceTables, FixedTables};
+ghost use Rattle.alf_params.specs.Numbers.{copiedFrom, RunInAps, FromAps, lumaRun, chromaRun, crossRun, fixedNumber};
 use crate::entries::ctb_number;
 use crate::entries::slice_number;
 use alf_lists::fill;
@@ -23,7 +20,7 @@ const LUMA: usize = 600;
 const CROSS: usize = 696;
 
 // The first sets are fixed: a filter for each of 25 classes.
-const FIXED_SETS: usize = 16;
+pub const FIXED_SETS: usize = 16;
 
 const CLASSES: usize = 25;
 
@@ -50,7 +47,13 @@ fn fixed_clip(depth: u32) -> i16
 }
 
 // The filters of a fixed set, which have coefficients alone.
-fn load_fixed(depth: u32, set: usize, fixed_filters: &[i16], fixed_map: &[u8], filters: &mut [i16])
+pub fn load_fixed(
+    depth: u32,
+    set: usize,
+    fixed_filters: &[i16],
+    fixed_map: &[u8],
+    filters: &mut [i16],
+)
     requires { ⌜ (set < 16) × (FixedTables depth (now «fixed_filters») (now «fixed_map»)) × (length (now filters) ≡ 600) ⌝ }
     ensures { λ _. ⌜ Filled (pos 0) (now (filters .entry)) (between 0 600)
         (fixedNumber depth set (now («fixed_filters» .entry)) (now («fixed_map» .entry))) (now (filters .exit)) ⌝ }
@@ -89,34 +92,23 @@ pub fn load_from_aps(
     copy_numbers(bank, APS * aps + run.first, run.count, filters, 0);
 }
 
-// The 25 luma filters: those of a fixed set, or of one of the slice's luma APSs.
-pub fn load_luma(
-    depth: u32,
-    k: usize,
-    slice_map: &[u8],
-    slice_params: &[u8],
-    bank: &[i16],
-    ctb_params: &[u8],
-    fixed_filters: &[i16],
-    fixed_map: &[u8],
-    filters: &mut [i16],
-)
-    requires { ⌜ (CtbTables (now «slice_map») (now «slice_params») (now bank) (now «ctb_params») k)
-        × (FixedTables depth (now «fixed_filters») (now «fixed_map»)) × (length (now filters) ≡ 600) ⌝ }
-    ensures { λ _. ⌜ (FilterNumbers (now (filters .exit))) × ((i : Input) (c : Ctb)
-        → TablesGiven i c (now («slice_map» .entry)) (now («slice_params» .entry)) (now (bank .entry)) (now («ctb_params» .entry)) k
-        → FixedOf i depth (now («fixed_filters» .entry)) (now («fixed_map» .entry)) → LumaFilters i c (now (filters .exit))) ⌝ }
+// Which set of 25 luma filters a CTB has: the fixed sets, and then one of each of the slice's luma APSs.
+pub fn luma_set(k: usize, ctb_params: &[u8]) -> usize
+    requires { ⌜ 8 * k + 8 ≤ length (now «ctb_params») ⌝ }
+    ensures { λ r. ⌜ r ≡ ctbNumber (now («ctb_params» .entry)) k 3 ⌝ }
 {
-    let set = ctb_number(ctb_params, k, 3) as usize;
-    if set < FIXED_SETS {
-        load_fixed(depth, set, fixed_filters, fixed_map, filters);
-    } else {
-        let run = ApsRun {
-            name: 1 + (set - FIXED_SETS),
-            first: 0,
-            count: LUMA,
-        };
-        load_from_aps(run, k, slice_map, slice_params, bank, filters);
+    ctb_number(ctb_params, k, 3) as usize
+}
+
+// Where a set that is not fixed stands: 12 coefficients and 12 clips for each class.
+pub fn luma_run(set: usize) -> ApsRun
+    requires { ⌜ (16 ≤ set) × (set ≤ 22) ⌝ }
+    ensures { λ r. ⌜ (r ≡ lumaRun set) × (RunInAps r) ⌝ }
+{
+    ApsRun {
+        name: 1 + (set - FIXED_SETS),
+        first: 0,
+        count: LUMA,
     }
 }
 

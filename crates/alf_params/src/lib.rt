@@ -4,10 +4,13 @@ mod filters;
 mod switches;
 
 pub use filters::ApsRun;
+pub use filters::FIXED_SETS;
 pub use filters::chroma_run;
 pub use filters::cross_run;
+pub use filters::load_fixed;
 pub use filters::load_from_aps;
-pub use filters::load_luma;
+pub use filters::luma_run;
+pub use filters::luma_set;
 pub use switches::chroma_on;
 pub use switches::cross_on;
 pub use switches::luma_on;
