@@ -34,18 +34,18 @@ sides-same {given} {side} first last = λ t d. at d t
     at before = first
     at after = last
 
--- a position of an axis's CTB: where the CTB begins, and how far the position lies in it
-module _ {a : CtbAxis} {x : ℕ} (h : InCtb a x) where
-  pub start-is : a .place * a .ctb ≡ x / a .ctb * a .ctb
-  start-is = ap (λ (q : ℕ). q * a .ctb) (h .place)
+-- a position of an axis's CTB: where the CTB begins, as code has it, and how far the position lies in it
+module _ {a : CtbAxis} {x start : ℕ} (h : InCtb a x) (e : start ≡ a .place * a .ctb) where
+  pub start-is : x / a .ctb * a .ctb ≡ start
+  start-is = sym (e ∙ ap (λ (q : ℕ). q * a .ctb) (h .place))
 
-  pub start-le : a .place * a .ctb ≤ x
+  pub start-le : start ≤ x
   start-le = omega (arith, start-is, div-mul-le-self x (a .ctb))
 
-  pub in-ctb : x - a .place * a .ctb ≡ x % a .ctb
+  pub in-ctb : x % a .ctb ≡ x - start
   in-ctb = omega (arith, start-is, div-add-mod' x (a .ctb))
 
-  pub in-ctb-lt : x - a .place * a .ctb < a .ctb
+  pub in-ctb-lt : x - start < a .ctb
   in-ctb-lt =
       let positive : 0 < a .ctb = omega (arith, h .low) in
       omega (arith, in-ctb, mod-lt x positive)

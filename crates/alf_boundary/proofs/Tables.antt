@@ -1,8 +1,8 @@
 -- The tables of an accepted layout, and the entries of a CTB in them. Assumes nothing.
-use mathlib.Core.Path.{_≡_, _∙_, sym}
-use mathlib.Core.Bool.{true}
+use mathlib.Core.Path.{_≡_, refl, _∙_, sym}
+use mathlib.Core.Bool.{Bool, true, false, cond}
 use mathlib.Core.List.{List}
-use Prim.Native.Nat.{ℕ, suc, pred, _+_, _*_, _/_, _%_, _<_}
+use Prim.Native.Nat.{ℕ, suc, pred, _+_, _*_, _<_}
 use native.Mathlib.Omega.{arith}
 use lib.Dec.{ltb}
 use lib.ListN.{length}
@@ -18,11 +18,9 @@ use Rattle.alf_spec.proofs.Planes.{place-below}
 use Rattle.alf_spec.proofs.Accepted.{AcceptedLayout, table-lengths}
 use Rattle.alf_math.specs.Grids.{GridOf}
 use Rattle.alf_math.proofs.Grids.{grid-columns, grid-rows, grid-total}
-use Rattle.alf_math.proofs.CtbAddresses.{ctb-in-grid}
 use Rattle.alf_boundary.specs.Tables.{MembershipTables}
 use Rattle.alf_boundary.specs.Memberships.{InTables}
 use Rattle.alf_boundary.specs.Neighbours.{beside, stacked, diagonal}
-use Rattle.alf_boundary.specs.SideCauses.{Reached}
 
 -- an accepted layout has the tables of its grid
 pub tables-of : (l : Layout) (g : Grid) → GridOf (l .picture) g → AcceptedLayout l
@@ -38,12 +36,6 @@ tables-of l g h ok =
       switchLength = lengths .subpicAcross;
       subpictures = both (every (λ n. ltb n 64) (l .subpicMap)) _ (ok .subpictures) .0;
     }
-
--- the CTB at address k of an accepted layout is in the grid, and the tables have its entries
-pub ctb-in-tables : (l : Layout) → AcceptedLayout l → {g : Grid} → GridOf (l .picture) g → (k : ℕ) → k < g .columns * g .rows
-    → (GridOf (l .picture) g) × (MembershipTables g (l .tileColumns) (l .tileRows) (l .sliceMap) (l .subpicMap) (l .subpicAcross))
-    × (k % g .columns < g .columns) × (k / g .columns < g .rows)
-ctb-in-tables l ok {g} h k below = let within = ctb-in-grid h k below in (h, tables-of l g h ok, within .0, within .1)
 
 -- the place next to x among n, where it has one on that side
 next-within : (n x : ℕ) (d : Side) → hasNext n d x ≡ true → next d x < n
@@ -71,15 +63,24 @@ module _ {g : Grid} {tileColumns tileRows sliceMap subpicMap subpicAcross : List
         switch = rw (t .switchLength) (ltb-true _ 64 below);
       }
 
-  -- the CTBs next to c on one side, where they are there, lie in the grid, and have their entries
+  -- the CTBs next to c on one side lie in the grid, and have their entries
   module _ (c : Ctb) (x : c .column < g .columns) (y : c .row < g .rows) (d : Side) where
-    pub beside-reached : Reached tileColumns tileRows sliceMap subpicMap subpicAcross (g .columns) (beside g c d)
-    beside-reached e = in-tables _ (next-within (g .columns) (c .column) d e) y
+    abbrev Entries : Ctb → Type 0
+    Entries n = InTables (g .columns) tileColumns tileRows sliceMap subpicMap subpicAcross n
 
-    pub stacked-reached : Reached tileColumns tileRows sliceMap subpicMap subpicAcross (g .columns) (stacked g c d)
-    stacked-reached e = in-tables _ x (next-within (g .rows) (c .row) d e)
+    -- a CTB where it is there, and c itself where it is not
+    reached : (there : Bool) (n : Ctb) → (there ≡ true → Entries n) → Entries (cond there n c)
+    reached true n e = e refl
+    reached false n e = in-tables c x y
 
-    pub diagonal-reached : Reached tileColumns tileRows sliceMap subpicMap subpicAcross (g .columns) (diagonal g c d)
-    diagonal-reached e =
+    pub beside-reached : Entries (beside g c d)
+    beside-reached = reached _ _ (λ e. in-tables _ (next-within (g .columns) (c .column) d e) y)
+
+    pub stacked-reached : Entries (stacked g c d)
+    stacked-reached = reached _ _ (λ e. in-tables _ x (next-within (g .rows) (c .row) d e))
+
+    pub diagonal-reached : Entries (diagonal g c d)
+    diagonal-reached =
+        reached _ _ (λ e.
         let h = both (hasNext (g .columns) d (c .column)) (hasNext (g .rows) d (c .row)) e in
-        in-tables _ (next-within (g .columns) (c .column) d (h .0)) (next-within (g .rows) (c .row) d (h .1))
+        in-tables _ (next-within (g .columns) (c .column) d (h .0)) (next-within (g .rows) (c .row) d (h .1)))

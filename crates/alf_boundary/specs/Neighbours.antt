@@ -1,12 +1,11 @@
 -- The CTBs next to a CTB as code has them. Assumes nothing.
-use mathlib.Core.Bool.{_&&_}
+use mathlib.Core.Bool.{_&&_, cond}
 use Prim.Native.Nat.{ℕ}
 use Rattle.alf_spec.specs.declared.Ctb.{Ctb}
 use Rattle.alf_spec.specs.declared.Grid.{Grid}
 use Rattle.alf_spec.specs.Geometry.{Side, before, after, next, hasNext}
 use Rattle.alf_spec.specs.Boundary.{besideCtb, stackedCtb, diagonalCtb}
 use Rattle.alf_boundary.specs.declared.neighbours.AxisNeighbours.{AxisNeighbours}
-use Rattle.alf_boundary.specs.declared.neighbours.Neighbour.{Neighbour}
 use Rattle.alf_boundary.specs.declared.neighbours.Neighbours.{Neighbours}
 
 -- what is next to place x of n along an axis
@@ -18,20 +17,21 @@ neighboursAlong n x = record {
   after = next after x;
 }
 
+-- the CTBs next to c, each where there is one and c itself where there is none
 module _ (g : Grid) (c : Ctb) where
   -- the CTB left or right of c
-  abbrev pub beside : Side → Neighbour
-  beside d = record { there = hasNext (g .columns) d (c .column); ctb = besideCtb d c }
+  abbrev pub beside : Side → Ctb
+  beside d = cond (hasNext (g .columns) d (c .column)) (besideCtb d c) c
 
   -- the CTB above or below c
-  abbrev pub stacked : Side → Neighbour
-  stacked d = record { there = hasNext (g .rows) d (c .row); ctb = stackedCtb d c }
+  abbrev pub stacked : Side → Ctb
+  stacked d = cond (hasNext (g .rows) d (c .row)) (stackedCtb d c) c
 
   -- the CTB up-left or down-right of c
-  abbrev pub diagonal : Side → Neighbour
-  diagonal d = record { there = hasNext (g .columns) d (c .column) && hasNext (g .rows) d (c .row); ctb = diagonalCtb d c }
+  abbrev pub diagonal : Side → Ctb
+  diagonal d = cond (hasNext (g .columns) d (c .column) && hasNext (g .rows) d (c .row)) (diagonalCtb d c) c
 
-  -- the CTBs next to c, by their sides and corners
+  -- all of them, by c's sides and corners
   abbrev pub neighboursOf : Neighbours
   neighboursOf = record {
     left = beside before;

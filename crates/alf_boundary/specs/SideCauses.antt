@@ -1,6 +1,5 @@
 -- What decides at the sides and corners of a CTB, and why filtering across them is disabled, as code has it. Assumes nothing.
-use mathlib.Core.Path.{_≡_}
-use mathlib.Core.Bool.{Bool, true, not, _&&_, cond}
+use mathlib.Core.Bool.{Bool, not, _&&_, cond}
 use mathlib.Core.List.{List}
 use Prim.Native.Nat.{ℕ, _+_, _*_}
 use lib.Dec.{eqb}
@@ -10,9 +9,9 @@ use Rattle.alf_spec.specs.declared.ClipCause.the-variants.{Open, Tile, Slice, S
 use Rattle.alf_spec.specs.declared.Ctb.{Ctb}
 use Rattle.alf_spec.specs.declared.Picture.{Picture}
 use Rattle.alf_boundary.specs.declared.memberships.Membership.{Membership}
-use Rattle.alf_boundary.specs.declared.neighbours.Neighbour.{Neighbour}
+use Rattle.alf_boundary.specs.declared.sides.AxisCauses.{AxisCauses}
 use Rattle.alf_boundary.specs.declared.sides.Origin.{Origin}
-use Rattle.alf_boundary.specs.Memberships.{InTables, membershipAt}
+use Rattle.alf_boundary.specs.Memberships.{membershipAt}
 
 -- the step into a CTB of this slice is disabled, by slices
 abbrev pub sliceStepDisabled : Origin → ℕ → Bool
@@ -25,9 +24,9 @@ causeInto o n =
     (cond (sliceStepDisabled o (n .slice)) Slice
     (cond (not (eqb (o .own .subpic) (n .subpic)) && not (o .own .«across_subpic»)) Subpicture Open))
 
--- the corner toward a neighbour is disabled: it is there, and the step into its slice is disabled
-abbrev pub cornerToward : List ℕ → Origin → Neighbour → Bool
-cornerToward sliceMap o n = n .there && sliceStepDisabled o (getD sliceMap (n .ctb .row * o .columns + n .ctb .column) 0)
+-- the corner toward the CTB n is disabled: the step into its slice is
+abbrev pub cornerToward : List ℕ → Origin → Ctb → Bool
+cornerToward sliceMap o n = sliceStepDisabled o (getD sliceMap (n .row * o .columns + n .column) 0)
 
 -- the tables of a layout
 module _ (tileColumns tileRows sliceMap subpicMap subpicAcross : List ℕ) where
@@ -40,11 +39,10 @@ module _ (tileColumns tileRows sliceMap subpicMap subpicAcross : List ℕ) where
     columns = columns;
   }
 
-  -- they have entries for a neighbour that is there, in a grid with so many CTBs in a row
-  abbrev pub Reached : ℕ → Neighbour → Type 0
-  Reached columns n = n .there ≡ true → InTables columns tileColumns tileRows sliceMap subpicMap subpicAcross (n .ctb)
+  -- why filtering across the side toward the CTB n is disabled
+  abbrev pub causeToward : Origin → Ctb → ClipCause
+  causeToward o n = causeInto o (membershipAt (o .columns) tileColumns tileRows sliceMap subpicMap subpicAcross n)
 
-  -- why filtering across the side toward a neighbour is disabled, if it is there
-  abbrev pub causeToward : Origin → Neighbour → ClipCause
-  causeToward o n =
-      cond (n .there) (causeInto o (membershipAt (o .columns) tileColumns tileRows sliceMap subpicMap subpicAcross (n .ctb))) Open
+  -- why filtering across the two sides along one axis is disabled, by the CTBs next to them
+  abbrev pub axisCauses : Origin → Ctb → Ctb → AxisCauses
+  axisCauses o m n = record { before = causeToward o m; after = causeToward o n }

@@ -90,7 +90,7 @@ fn or_else(first: FoundClip, second: FoundClip) -> FoundClip
     }
 }
 
-// The cause.
+// The cause of the clip position; where there is none, the side is open.
 pub fn cause_of(found: FoundClip) -> ClipCause
     ensures { λ r. ⌜ r ≡ causeOf (clipOf found) ⌝ }
 {
@@ -140,7 +140,7 @@ pub fn ctb_start(axis: CtbAxis) -> u32
     axis.place * axis.ctb
 }
 
-// The line rule: all rows of y's CTB lie in the picture.
+// Whether the line rule is on in y's CTB: where all of the CTB's rows lie in the picture.
 pub fn line_rule(size: u32, ctb: u32, y: u32) -> bool
     requires { ⌜ Bounded ctb y ⌝ }
     ensures { λ r. ⌜ ((a : Axis) → a .size ≡ size → a .ctb ≡ ctb → r ≡ lineRule a y) ⌝ }
@@ -148,7 +148,7 @@ pub fn line_rule(size: u32, ctb: u32, y: u32) -> bool
     y / ctb * ctb + ctb <= size
 }
 
-// The line-buffer boundary, where x lies at or below it, or 1 to 4 rows above it.
+// The line-buffer boundary: before x where x lies at or below it, and after x where x lies 1 to 4 rows above it.
 fn line_clip(axis: CtbAxis, after: bool, x: u32) -> FoundClip
     requires { ⌜ InCtb axis x ⌝ }
     ensures { λ r. ⌜ ((boundaries : List ℕ) (ratio : ℕ) → clipOf r ≡ lineClip (axisAlong axis boundaries ratio) x (sideOf after)) ⌝ }
@@ -170,7 +170,8 @@ fn line_clip(axis: CtbAxis, after: bool, x: u32) -> FoundClip
     }
 }
 
-// The CTB's side, where filtering across it is disabled: x lies at most 2 behind it, or at most 4 before it.
+// The CTB's side where filtering across it is disabled: before x where x lies at most 2 behind it, after x where x lies at most 4 before
+// it.
 fn side_clip(axis: CtbAxis, after: bool, x: u32) -> FoundClip
     requires { ⌜ InCtb axis x ⌝ }
     ensures { λ r. ⌜ ((boundaries : List ℕ) (ratio : ℕ)

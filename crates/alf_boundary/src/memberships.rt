@@ -7,7 +7,7 @@ ghost use lib.ListN.{length, getD};
 ghost use Rattle.alf_boundary.specs.Memberships.{InTables, membershipAt};
 use alf_spec::Ctb;
 
-// The tile, the slice and the subpicture of a CTB, and that subpicture's switch.
+// The tile, the slice and the subpicture of a CTB, and whether that subpicture's switch is on.
 pub struct Membership {
     pub tile_column: u8,
     pub tile_row: u8,
@@ -16,14 +16,14 @@ pub struct Membership {
     pub across_subpic: bool,
 }
 
-// The address of a CTB.
+// The address of a CTB in a grid with so many CTBs in a row.
 pub fn address(columns: u32, ctb: Ctb) -> usize
     ensures { λ r. ⌜ r ≡ ctb .row * columns + ctb .column ⌝ }
 {
     (ctb.row as usize) * (columns as usize) + (ctb.column as usize)
 }
 
-// The switch of a subpicture.
+// Whether the switch of a subpicture is on: filtering goes across its sides.
 fn switch_of(subpic_across: &[u8], subpic: u8) -> bool
     requires { ⌜ subpic < length (now «subpic_across») ⌝ }
     ensures { λ r. ⌜ r ≡ not (eqb (getD (now («subpic_across» .entry)) subpic 0) 0) ⌝ }
@@ -32,7 +32,7 @@ fn switch_of(subpic_across: &[u8], subpic: u8) -> bool
     subpic_across[at] != 0
 }
 
-// What a CTB belongs to.
+// The membership of a CTB, by the tables of a grid with so many CTBs in a row.
 pub fn membership_of(
     columns: u32,
     tile_columns: &[u8],

@@ -1,5 +1,6 @@
 // The CTBs next to a CTB: found along one axis at a time, by the CTB's place among so many.
 ghost use mathlib.Core.Path.{_≡_};
+ghost use mathlib.Core.Bool.{cond};
 ghost use Prim.Native.Nat.{_<_};
 ghost use Rattle.alf_boundary.specs.Neighbours.{neighboursAlong, neighboursOf};
 use alf_math::grid::previous;
@@ -14,20 +15,15 @@ struct AxisNeighbours {
     pub after: u32,
 }
 
-// A CTB next to another, where there is one.
-pub struct Neighbour {
-    pub there: bool,
-    pub ctb: Ctb,
-}
-
-// The CTBs across the sides of a CTB, and across the two corners at which slices disable filtering.
+// The CTBs across the sides of a CTB, and across the two corners at which slices disable filtering. Where there is none, it is the CTB
+// itself: a step into it is never disabled.
 pub struct Neighbours {
-    pub left: Neighbour,
-    pub right: Neighbour,
-    pub above: Neighbour,
-    pub below: Neighbour,
-    pub upper_left: Neighbour,
-    pub lower_right: Neighbour,
+    pub left: Ctb,
+    pub right: Ctb,
+    pub above: Ctb,
+    pub below: Ctb,
+    pub upper_left: Ctb,
+    pub lower_right: Ctb,
 }
 
 // What is next to place `at` of so many CTBs along an axis.
@@ -44,17 +40,17 @@ fn neighbours_along(count: u32, at: u32) -> AxisNeighbours
     }
 }
 
-// The neighbour at this place, where it is there.
-fn neighbour_at(there: bool, column: u32, row: u32) -> Neighbour
-    ensures { λ r. ⌜ r ≡ record { there = there; ctb = record { column = column; row = row } } ⌝ }
+// The CTB at this place where there is one, and a CTB itself where there is none.
+fn ctb_or_own(there: bool, column: u32, row: u32, own: Ctb) -> Ctb
+    ensures { λ r. ⌜ r ≡ cond there (record { column = column; row = row }) own ⌝ }
 {
-    let ctb = Ctb {
-        column: column,
-        row: row,
-    };
-    Neighbour {
-        there: there,
-        ctb: ctb,
+    if there {
+        Ctb {
+            column: column,
+            row: row,
+        }
+    } else {
+        own
     }
 }
 
@@ -68,15 +64,21 @@ pub fn neighbours_of(grid: Grid, ctb: Ctb) -> Neighbours
     let across = neighbours_along(grid.columns, x);
     let down = neighbours_along(grid.rows, y);
     Neighbours {
-        left: neighbour_at(across.has_before, across.before, y),
-        right: neighbour_at(across.has_after, across.after, y),
-        above: neighbour_at(down.has_before, x, down.before),
-        below: neighbour_at(down.has_after, x, down.after),
-        upper_left: neighbour_at(
+        left: ctb_or_own(across.has_before, across.before, y, ctb),
+        right: ctb_or_own(across.has_after, across.after, y, ctb),
+        above: ctb_or_own(down.has_before, x, down.before, ctb),
+        below: ctb_or_own(down.has_after, x, down.after, ctb),
+        upper_left: ctb_or_own(
             across.has_before & down.has_before,
             across.before,
             down.before,
+            ctb,
         ),
-        lower_right: neighbour_at(across.has_after & down.has_after, across.after, down.after),
+        lower_right: ctb_or_own(
+            across.has_after & down.has_after,
+            across.after,
+            down.after,
+            ctb,
+        ),
     }
 }

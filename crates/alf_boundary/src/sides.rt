@@ -1,6 +1,5 @@
 // The sides of a CTB, by why filtering across them is disabled, and its corners across which it is.
 ghost use mathlib.Core.Path.{_≡_};
-ghost use mathlib.Core.Bool.{true};
 ghost use mathlib.Core.List.{List};
 ghost use Prim.Native.Nat.{ℕ, _+_, _*_, _<_};
 ghost use lib.ListN.{length};
@@ -8,11 +7,10 @@ ghost use Rattle.alf_spec.specs.Input.{layoutOf};
 ghost use Rattle.alf_math.specs.Grids.{GridOf};
 ghost use Rattle.alf_boundary.specs.Tables.{MembershipTables, SidesOf};
 ghost use Rattle.alf_boundary.specs.Memberships.{InTables};
-ghost use Rattle.alf_boundary.specs.SideCauses.{originAt, sliceStepDisabled, causeInto, Reached, causeToward, cornerToward};
+ghost use Rattle.alf_boundary.specs.SideCauses.{sliceStepDisabled, causeInto, axisCauses, cornerToward};
 use crate::memberships::Membership;
 use crate::memberships::address;
 use crate::memberships::membership_of;
-use crate::neighbours::Neighbour;
 use crate::neighbours::neighbours_of;
 use alf_spec::ClipCause;
 use alf_spec::Ctb;
@@ -35,39 +33,7 @@ struct AxisCauses {
     pub after: ClipCause,
 }
 
-// What decides at the sides of a CTB of the picture.
-fn origin_of(
-    picture: Picture,
-    columns: u32,
-    tile_columns: &[u8],
-    tile_rows: &[u8],
-    slice_map: &[u8],
-    subpic_map: &[u8],
-    subpic_across: &[u8],
-    ctb: Ctb,
-) -> Origin
-    requires { ⌜ InTables columns (now «tile_columns») (now «tile_rows») (now «slice_map») (now «subpic_map») (now «subpic_across») ctb ⌝ }
-    ensures { λ o. ⌜ o ≡ originAt (now («tile_columns» .entry)) (now («tile_rows» .entry)) (now («slice_map» .entry))
-        (now («subpic_map» .entry)) (now («subpic_across» .entry)) picture columns ctb ⌝ }
-{
-    let own = membership_of(
-        columns,
-        tile_columns,
-        tile_rows,
-        slice_map,
-        subpic_map,
-        subpic_across,
-        ctb,
-    );
-    Origin {
-        own: own,
-        across_tiles: picture.across_tiles,
-        across_slices: picture.across_slices,
-        columns: columns,
-    }
-}
-
-// The step into a CTB of this slice is disabled, by slices: it is another slice, and the switch is off.
+// Whether slices disable the step into a CTB of this slice: it is another slice, and the switch for slices is off.
 fn slice_step_disabled(origin: Origin, slice: u8) -> bool
     ensures { λ r. ⌜ r ≡ sliceStepDisabled origin slice ⌝ }
 {
@@ -97,37 +63,7 @@ fn step_cause(origin: Origin, into: Membership) -> ClipCause
     ClipCause::Open
 }
 
-// Why filtering across the side toward a neighbour is disabled; where there is none, nothing is read.
-fn side_cause(
-    origin: Origin,
-    tile_columns: &[u8],
-    tile_rows: &[u8],
-    slice_map: &[u8],
-    subpic_map: &[u8],
-    subpic_across: &[u8],
-    n: Neighbour,
-) -> ClipCause
-    requires { ⌜ Reached (now «tile_columns») (now «tile_rows») (now «slice_map») (now «subpic_map») (now «subpic_across»)
-        (origin .columns) n ⌝ }
-    ensures { λ r. ⌜ r ≡ causeToward (now («tile_columns» .entry)) (now («tile_rows» .entry)) (now («slice_map» .entry))
-        (now («subpic_map» .entry)) (now («subpic_across» .entry)) origin n ⌝ }
-{
-    if !n.there {
-        return ClipCause::Open;
-    }
-    let into = membership_of(
-        origin.columns,
-        tile_columns,
-        tile_rows,
-        slice_map,
-        subpic_map,
-        subpic_across,
-        n.ctb,
-    );
-    step_cause(origin, into)
-}
-
-// Why filtering across the two sides along one axis is disabled, by the neighbours along it.
+// Why filtering across the two sides along one axis is disabled, by the CTBs next to them.
 fn axis_causes(
     origin: Origin,
     tile_columns: &[u8],
@@ -135,49 +71,46 @@ fn axis_causes(
     slice_map: &[u8],
     subpic_map: &[u8],
     subpic_across: &[u8],
-    before: Neighbour,
-    after: Neighbour,
+    before: Ctb,
+    after: Ctb,
 ) -> AxisCauses
-    requires { ⌜ (Reached (now «tile_columns») (now «tile_rows») (now «slice_map») (now «subpic_map») (now «subpic_across»)
-        (origin .columns) before)
-        × (Reached (now «tile_columns») (now «tile_rows») (now «slice_map») (now «subpic_map») (now «subpic_across»)
-        (origin .columns) after) ⌝ }
-    ensures { λ r. ⌜ (r .before ≡ causeToward (now («tile_columns» .entry)) (now («tile_rows» .entry)) (now («slice_map» .entry))
-        (now («subpic_map» .entry)) (now («subpic_across» .entry)) origin before)
-        × (r .after ≡ causeToward (now («tile_columns» .entry)) (now («tile_rows» .entry)) (now («slice_map» .entry))
-        (now («subpic_map» .entry)) (now («subpic_across» .entry)) origin after) ⌝ }
+    requires { ⌜ (InTables (origin .columns) (now «tile_columns») (now «tile_rows») (now «slice_map») (now «subpic_map»)
+        (now «subpic_across») before)
+        × (InTables (origin .columns) (now «tile_columns») (now «tile_rows») (now «slice_map») (now «subpic_map»)
+        (now «subpic_across») after) ⌝ }
+    ensures { λ r. ⌜ r ≡ axisCauses (now («tile_columns» .entry)) (now («tile_rows» .entry)) (now («slice_map» .entry))
+        (now («subpic_map» .entry)) (now («subpic_across» .entry)) origin before after ⌝ }
 {
+    let into_before = membership_of(
+        origin.columns,
+        tile_columns,
+        tile_rows,
+        slice_map,
+        subpic_map,
+        subpic_across,
+        before,
+    );
+    let into_after = membership_of(
+        origin.columns,
+        tile_columns,
+        tile_rows,
+        slice_map,
+        subpic_map,
+        subpic_across,
+        after,
+    );
     AxisCauses {
-        before: side_cause(
-            origin,
-            tile_columns,
-            tile_rows,
-            slice_map,
-            subpic_map,
-            subpic_across,
-            before,
-        ),
-        after: side_cause(
-            origin,
-            tile_columns,
-            tile_rows,
-            slice_map,
-            subpic_map,
-            subpic_across,
-            after,
-        ),
+        before: step_cause(origin, into_before),
+        after: step_cause(origin, into_after),
     }
 }
 
-// Filtering across the corner toward a neighbour is disabled, by slices alone; where there is none, nothing is read.
-fn corner_disabled(origin: Origin, slice_map: &[u8], n: Neighbour) -> bool
-    requires { ⌜ (n .there ≡ true → n .ctb .row * origin .columns + n .ctb .column < length (now «slice_map»)) ⌝ }
+// Whether filtering across the corner toward the CTB n is disabled: slices alone decide.
+fn corner_disabled(origin: Origin, slice_map: &[u8], n: Ctb) -> bool
+    requires { ⌜ n .row * origin .columns + n .column < length (now «slice_map») ⌝ }
     ensures { λ r. ⌜ r ≡ cornerToward (now («slice_map» .entry)) origin n ⌝ }
 {
-    if !n.there {
-        return false;
-    }
-    let at = address(origin.columns, n.ctb);
+    let at = address(origin.columns, n);
     slice_step_disabled(origin, slice_map[at])
 }
 
@@ -198,8 +131,7 @@ pub fn sides_of(
     ensures { λ s. ⌜ ((columns rows : List ℕ) → SidesOf (layoutOf picture columns rows (now («tile_columns» .entry))
         (now («tile_rows» .entry)) (now («slice_map» .entry)) (now («subpic_map» .entry)) (now («subpic_across» .entry))) ctb s) ⌝ }
 {
-    let origin = origin_of(
-        picture,
+    let own = membership_of(
         grid.columns,
         tile_columns,
         tile_rows,
@@ -208,6 +140,12 @@ pub fn sides_of(
         subpic_across,
         ctb,
     );
+    let origin = Origin {
+        own: own,
+        across_tiles: picture.across_tiles,
+        across_slices: picture.across_slices,
+        columns: grid.columns,
+    };
     let near = neighbours_of(grid, ctb);
     let across = axis_causes(
         origin,

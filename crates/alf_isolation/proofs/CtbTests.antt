@@ -14,9 +14,8 @@ use Rattle.alf_spec.proofs.Accepted.{AcceptedLayout, accepted-layout, accepted-
 use Rattle.alf_spec.proofs.Axes.{regular-columns, regular-rows}
 use Rattle.alf_math.specs.Grids.{GridOf}
 use Rattle.alf_math.proofs.Grids.{width-bounds, height-bounds, grid-columns, grid-total}
-use Rattle.alf_boundary.specs.Tables.{MembershipTables, SidesOf}
+use Rattle.alf_boundary.specs.Tables.{SidesOf}
 use Rattle.alf_math.proofs.CtbAddresses.{ctb-in-picture}
-use Rattle.alf_boundary.proofs.Tables.{ctb-in-tables}
 use Rattle.alf_isolation.specs.Blocks.{ctbPasses}
 use Rattle.alf_isolation.specs.Steps.{ctbTest, addressPasses, BlocksOf}
 use Rattle.alf_isolation.proofs.CtbOrder.{isolated-by-ctbs}
@@ -46,12 +45,6 @@ module _ (l : Layout) (region : List ℕ) (accepted : isolationFault l region �
 
   -- the CTB at address k
   module _ (k : ℕ) (below : k < g .columns * g .rows) where
-    -- it is in the grid, and the tables have its entries
-    pub in-grid : (GridOf (l .picture) g)
-        × (MembershipTables g (l .tileColumns) (l .tileRows) (l .sliceMap) (l .subpicMap) (l .subpicAcross))
-        × (k % g .columns < g .columns) × (k / g .columns < g .rows)
-    in-grid = ctb-in-tables l ok h k below
-
     -- it begins in the picture, and the region has its blocks
     pub in-region : (BlocksOf (l .picture) (g .ctb) region)
         × (k % g .columns * g .ctb < l .picture .width) × (k / g .columns * g .ctb < l .picture .height)

@@ -1,15 +1,16 @@
-// The isolation test of a region: its blocks are tested CTB by CTB, and in a CTB row by row.
+// The isolation test of a region: the sides of all CTBs first, then the blocks of a CTB at a time, row by row.
 ghost use mathlib.Core.Path.{_≡_};
 ghost use Prim.Native.Nat.{_+_, _*_, _/_, _%_, _≤_, _<_};
 ghost use Rattle.alf_spec.specs.Input.{layoutOf};
 ghost use Rattle.alf_spec.specs.Faults.{isolationFault};
 ghost use Rattle.alf_spec.specs.Isolation.{isolated};
-ghost use Rattle.alf_math.specs.Grids.{GridOf};
-ghost use Rattle.alf_isolation.specs.Steps.{blocksAlong, rowTest, ctbTest, addressPasses, BlocksOf};
+ghost use Rattle.alf_isolation.specs.Steps.{blocksAlong, rowTest, ctbTest, BlocksOf};
 use crate::neighbours::run_passes;
 use crate::steps::row_sides;
-use alf_boundary::sides::sides_of;
 use alf_math::grid::grid;
+use alf_sides::CTBS;
+use alf_sides::plan_sides;
+use alf_sides::sides_at;
 use alf_spec::Ctb;
 use alf_spec::Grid;
 use alf_spec::Picture;
@@ -95,52 +96,6 @@ fn ctb_passes(
     true
 }
 
-// Whether each block of the CTB at address k passes.
-fn address_passes(
-    picture: Picture,
-    grid: Grid,
-    virtual_columns: &[u16],
-    virtual_rows: &[u16],
-    tile_columns: &[u8],
-    tile_rows: &[u8],
-    slice_map: &[u8],
-    subpic_map: &[u8],
-    subpic_across: &[u8],
-    region: &[u8],
-    k: u32,
-) -> bool
-    requires { ⌜ (GridOf picture grid) × (k < grid .columns * grid .rows)
-        × (isolationFault (layoutOf picture (now «virtual_columns») (now «virtual_rows») (now «tile_columns») (now «tile_rows»)
-        (now «slice_map») (now «subpic_map») (now «subpic_across»)) (now region) ≡ 0) ⌝ }
-    ensures { λ r. ⌜ r ≡ addressPasses (layoutOf picture (now («virtual_columns» .entry)) (now («virtual_rows» .entry))
-        (now («tile_columns» .entry)) (now («tile_rows» .entry)) (now («slice_map» .entry)) (now («subpic_map» .entry))
-        (now («subpic_across» .entry))) (now (region .entry)) k ⌝ }
-{
-    let ctb = Ctb {
-        column: k % grid.columns,
-        row: k / grid.columns,
-    };
-    let sides = sides_of(
-        picture,
-        grid,
-        tile_columns,
-        tile_rows,
-        slice_map,
-        subpic_map,
-        subpic_across,
-        ctb,
-    );
-    ctb_passes(
-        picture,
-        grid,
-        virtual_columns,
-        virtual_rows,
-        region,
-        ctb,
-        sides,
-    )
-}
-
 // Whether the region is isolated; the layout and the region are accepted already.
 pub fn region_isolated(
     picture: Picture,
@@ -161,20 +116,31 @@ pub fn region_isolated(
 {
     let grid = grid(picture);
     let total = grid.columns * grid.rows;
+    let mut sides: [u16; CTBS] = [0; CTBS];
+    plan_sides(
+        picture,
+        grid,
+        tile_columns,
+        tile_rows,
+        slice_map,
+        subpic_map,
+        subpic_across,
+        &mut sides,
+    );
     let mut k = 0;
     while k < total {
-        if !address_passes(
+        let ctb = Ctb {
+            column: k % grid.columns,
+            row: k / grid.columns,
+        };
+        if !ctb_passes(
             picture,
             grid,
             virtual_columns,
             virtual_rows,
-            tile_columns,
-            tile_rows,
-            slice_map,
-            subpic_map,
-            subpic_across,
             region,
-            k,
+            ctb,
+            sides_at(&sides, k),
         ) {
             return false;
         }

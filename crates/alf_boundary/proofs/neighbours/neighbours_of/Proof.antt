@@ -10,20 +10,20 @@ neighbours-of-spec =
     (λ c κs. search needs) (λ c κs. search needs) (λ c κs. search needs) (λ c κs. search needs) (λ c κs. search needs)
     (λ c κs. search needs) (λ c κs. search needs) (λ c κs. search needs)
     (λ c.
-    let corner : tie.After-neighbour-at5 = search needs in
-    let below : tie.After-neighbour-at4 = search needs in
-    let above : tie.After-neighbour-at3 = search needs in
-    let right : tie.After-neighbour-at2 = search needs in
-    let left : tie.After-neighbour-at = search needs in
+    let corner : tie.After-ctb-or-own5 = search needs in
+    let below : tie.After-ctb-or-own4 = search needs in
+    let above : tie.After-ctb-or-own3 = search needs in
+    let right : tie.After-ctb-or-own2 = search needs in
+    let left : tie.After-ctb-or-own = search needs in
     let down : tie.After-neighbours-along2 = search needs in
     let across : tie.After-neighbours-along = search needs in
     rw (
-      c .neighbour-at6 .ensures,
-      corner .neighbour-at5 .ensures,
-      below .neighbour-at4 .ensures,
-      above .neighbour-at3 .ensures,
-      right .neighbour-at2 .ensures,
-      left .neighbour-at .ensures,
+      c .ctb-or-own6 .ensures,
+      corner .ctb-or-own5 .ensures,
+      below .ctb-or-own4 .ensures,
+      above .ctb-or-own3 .ensures,
+      right .ctb-or-own2 .ensures,
+      left .ctb-or-own .ensures,
       down .neighbours-along2 .ensures,
       across .neighbours-along .ensures,
     )))

@@ -18,20 +18,18 @@ returns c columns rows =
     let down : tie.After-axis-causes2 = search needs in
     let across : tie.After-axis-causes = search needs in
     let near : tie.After-neighbours-of = search needs in
-    let origin : tie.After-origin-of = search needs in
+    let own : tie.After-membership-of = search needs in
     let s = start near in
     let l =
     layoutOf (s .args .picture) columns rows (s .args .tile-columns .now) (s .args .tile-rows .now) (s .args .slice-map .now)
     (s .args .subpic-map .now) (s .args .subpic-across .now) in
     rw (
-      across .axis-causes .ensures .0,
-      across .axis-causes .ensures .1,
-      down .axis-causes2 .ensures .0,
-      down .axis-causes2 .ensures .1,
+      across .axis-causes .ensures,
+      down .axis-causes2 .ensures,
       corner .corner-disabled .ensures,
       c .corner-disabled2 .ensures,
       near .neighbours-of .ensures,
-      origin .origin-of .ensures,
+      own .membership-of .ensures,
     ) (sides-are l (s .args .grid) (s .pre .0) (s .args .ctb))
 
 pub sides-of-spec : {M : Type 1} → statement M
@@ -42,25 +40,19 @@ sides-of-spec =
     (λ c κs. search needs)
     (λ c κs.
     let s : tie.Start = search needs in
-    let origin : tie.After-origin-of = search needs in
     let reached = beside-reached (s .pre .1) _ (s .pre .2) (s .pre .3) in
-    rw (c .neighbours-of .ensures, origin .origin-of .ensures) (reached before, reached after))
+    rw (c .neighbours-of .ensures) (reached before, reached after))
     (λ c κs.
     let s : tie.Start = search needs in
-    let origin : tie.After-origin-of = search needs in
     let near : tie.After-neighbours-of = search needs in
     let reached = stacked-reached (s .pre .1) _ (s .pre .2) (s .pre .3) in
-    rw (near .neighbours-of .ensures, origin .origin-of .ensures) (reached before, reached after))
+    rw (near .neighbours-of .ensures) (reached before, reached after))
     (λ c κs.
     let s : tie.Start = search needs in
-    let origin : tie.After-origin-of = search needs in
     let near : tie.After-neighbours-of = search needs in
-    rw (near .neighbours-of .ensures, origin .origin-of .ensures) (λ e.
-    diagonal-reached (s .pre .1) _ (s .pre .2) (s .pre .3) before e .slice))
+    rw (near .neighbours-of .ensures) (diagonal-reached (s .pre .1) _ (s .pre .2) (s .pre .3) before .slice))
     (λ c κs.
     let s : tie.Start = search needs in
-    let origin : tie.After-origin-of = search needs in
     let near : tie.After-neighbours-of = search needs in
-    rw (near .neighbours-of .ensures, origin .origin-of .ensures) (λ e.
-    diagonal-reached (s .pre .1) _ (s .pre .2) (s .pre .3) after e .slice))
+    rw (near .neighbours-of .ensures) (diagonal-reached (s .pre .1) _ (s .pre .2) (s .pre .3) after .slice))
     returns)
