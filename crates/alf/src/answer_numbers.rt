@@ -1,4 +1,4 @@
-// The number of paper 01's table for each answer.
+// The numbers of paper 01's table: of each fault, and of the answer of each operation. 0 is an accepted input.
 ghost use mathlib.Core.Path.{_≡_};
 ghost use Rattle.alf_spec.specs.Answers.{faultNumber, number as numberOf, isolationNumber as isolationNumberOf, causesNumber};
 use alf_spec::Answer;
@@ -6,7 +6,7 @@ use alf_spec::ClipCauses;
 use alf_spec::Fault;
 use alf_spec::Isolation;
 
-// 1 to 15
+// The number of a fault, 1 to 15.
 pub fn fault_number(fault: Fault) -> u8
     ensures { λ r. ⌜ r ≡ faultNumber fault ⌝ }
 {
@@ -29,7 +29,7 @@ pub fn fault_number(fault: Fault) -> u8
     }
 }
 
-// Of the class map and the filters: 0 where the input is accepted.
+// The number of what the class map or a filter answers: 0 where the input is accepted.
 pub fn number(answer: Answer) -> u8
     ensures { λ r. ⌜ r ≡ numberOf answer ⌝ }
 {
@@ -39,7 +39,7 @@ pub fn number(answer: Answer) -> u8
     }
 }
 
-// Of the isolation test: 0 where the input is accepted, whatever it then says.
+// The number of what the isolation test answers: 0 where the input is accepted, whether the region is isolated or not.
 pub fn isolation_number(answer: Isolation) -> u8
     ensures { λ r. ⌜ r ≡ isolationNumberOf answer ⌝ }
 {
@@ -50,7 +50,7 @@ pub fn isolation_number(answer: Isolation) -> u8
     }
 }
 
-// Of the causes at a luma position: 0 where they are named.
+// The number of the answer about the causes at a luma position: 0 where they are named.
 pub fn causes_number(answer: ClipCauses) -> u8
     ensures { λ r. ⌜ r ≡ causesNumber answer ⌝ }
 {

@@ -38,7 +38,7 @@ columnAxis p g s q = record { size = p .width; ctb = g .ctb; line = 0; before = 
 abbrev pub rowAxis : Picture → Grid → Sides → ℕ → ℕ → CtbAxis
 rowAxis p g s line q = record { size = p .height; ctb = g .ctb; line = line; before = s .top; after = s .bottom; place = q }
 
--- it as an axis of a plane with this ratio to luma, with these virtual boundaries
+-- the axis of a plane with this ratio to luma that goes through that CTB, with these virtual boundaries
 abbrev pub axisAlong : CtbAxis → List ℕ → ℕ → Axis
 axisAlong a virtualBoundaries ratio = axisOf (a .size) (a .ctb) virtualBoundaries (a .line) ratio
 

@@ -22,11 +22,11 @@ use Rattle.alf_c.specs.Calls.{withoutRoom}
 
 -- ---- the fault of the room
 
--- without room, the number a is b
+-- where there is no room, the number a becomes b
 record Roomless (a b : ℕ) : Type 0 where
   is : withoutRoom a ≡ b
 
--- a fault below 5 is judged before it, one above 5 behind it
+-- a fault below 5 is judged before that of the room, and one above 5 after it
 earlier : (t : Bool) (n : ℕ) {a b : ℕ} → withoutRoom n ≡ n → Roomless a b → Roomless (unless t n a) (unless t n b)
 unfolding unless
 earlier true n e h = h
@@ -58,7 +58,7 @@ room-fault l x y =
     (later (positionValid p x y) 15 refl (record { is = refl }))))))))))
     .is
 
--- it is a fault, so nothing is written
+-- the number without room is that of a fault, so nothing is written
 room-kept : (n : ℕ) (new old : List ℕ) → old ≡ kept (withoutRoom n) new old
 room-kept zero new old = refl
 room-kept (suc n) new old = by (ltb 0 (suc n) && ltb (suc n) 5)
@@ -78,7 +78,7 @@ four-set (w ∷ x ∷ []) e a b c d = absurd (omega arith)
 four-set (w ∷ x ∷ y ∷ []) e a b c d = absurd (omega arith)
 four-set (w ∷ x ∷ y ∷ z ∷ v ∷ vs) e a b c d = absurd (omega arith)
 
--- where there is room for four, they are what is written
+-- where there is room for four, the four numbers are what is written
 pub four-written : (xs : List ℕ) → length xs ≡ 4 → {a b c d : ℕ} {new : List ℕ} → a ∷ b ∷ c ∷ d ∷ [] ≡ new
     → set (set (set (set xs 0 a) 1 b) 2 c) 3 d ≡ cond (eqb (length xs) 4) new xs
 four-written xs e {a} {b} {c} {d} h = rw (eq-eqb (length xs) 4 e) (four-set xs e a b c d ∙ h)

@@ -7,6 +7,6 @@ use lib.Dec.{ltb}
 abbrev pub isolatedByte : Bool → ℕ
 isolatedByte isolated = cond isolated 1 0
 
--- the lowest fault where the list for the causes has no room for them, from what else is the number n: 5, unless n is 1 to 4
+-- the lowest fault where the list for the causes has no room for them, and the rest of the input has the number n: 5, unless n is 1 to 4
 abbrev pub withoutRoom : ℕ → ℕ
 withoutRoom n = cond (ltb 0 n && ltb n 5) n 5

@@ -15,7 +15,8 @@ use alf_spec::ClipCauses;
 use alf_spec::Picture;
 use alf_spec::SideCauses;
 
-// The lowest fault where there is no room for the causes, from the number of the rest.
+// What is returned where the list has no room for four causes, which is fault 5: `number` is that of the rest of the input, and goes
+// before it where it is 1 to 4.
 fn without_room(number: u8) -> u8
     ensures { λ r. ⌜ r ≡ withoutRoom number ⌝ }
 {
@@ -26,7 +27,7 @@ fn without_room(number: u8) -> u8
     }
 }
 
-// The causes by number, top, bottom, left and right, where there is room for four.
+// Writes the causes by number, top, bottom, left and right, where the list has room for these four.
 fn write_causes(named: SideCauses, causes: &mut [u8])
     ensures { λ _. ⌜ now (causes .exit) ≡ cond (eqb (length (now (causes .entry))) 4) (causeNumbers named) (now (causes .entry)) ⌝ }
 {

@@ -30,7 +30,7 @@ module _ (l : Layout) (ok : AcceptedLayout l) (region : List ℕ) (iso : isolate
     position = rw (edge-block d x, edge-block e y) here;
   }
 
-  -- with a sample its block is
+  -- where a sample is in the region, its block is
   arrives : (u v p q : ℕ) → LumaInside l region u v → u / 8 ≡ p → v / 8 ≡ q → blockInside l region p q ≡ true
   unfolding inside blockInside
   arrives u v p q h e f = rw (← e, ← f) (h .position)
@@ -115,6 +115,6 @@ module _ (l : Layout) (region : List ℕ) (accepted : isolationFault l region �
       let passed = all-at _ _ (all-at _ _ pass (y / 8) inRow) (x / 8) inColumn in
       sample-stays l ok region x y here (implied (blockInside l region (x / 8) (y / 8)) _ passed here))))
 
-  -- every sample is tested where every block is
+  -- every sample passes exactly where every block does
   pub by-blocks : isolated l region ≡ blocksPass l region
   by-blocks = same-test _ _ to-blocks to-samples

@@ -60,14 +60,14 @@ luma-ctb : (l : Layout) (x y : ℕ) → ctbAt (lumaPlane l) x y ≡ record { col
 unfolding planeOf
 luma-ctb l x y = simp mul-one
 
--- a diagonal step that the slices may disable is not open
+-- when a diagonal step is not open: up-left and down-right, where slices may disable it
 not-all : (a b t u : Bool) → (a ≡ true → b ≡ true → t ≡ u) → not (a && (b && not t)) ≡ (not a || (not b || u))
 not-all false b t u f = refl
 not-all true false t u f = refl
 not-all true true true u f = f refl refl
 not-all true true false u f = f refl refl
 
--- a diagonal step of the other two
+-- and up-right and down-left, where they may not
 not-both : (a b : Bool) → not (a && (b && true)) ≡ (not a || not b)
 not-both false b = refl
 not-both true false = refl
@@ -151,7 +151,7 @@ module _ (l : Layout) (ok : AcceptedLayout l) (c : Ctb) (x y : ℕ)
       (block-crossing (lumaPlane l .columns) (regular-columns l ok 1 1 4) (columnDisabled l c) d x (inColumn d) (sym (column-open d d) ∙ o))
       (block-crossing (lumaPlane l .rows) (regular-rows l ok 1 1 4) (rowDisabled l c) d y (inRow d) (sym (row-open d d) ∙ p))
 
-  -- up-left and down-right
+  -- the steps up-left and down-right are shut by either side step, or by the slices at the corner
   corner-step : (d : Side) → not (diagonalStep l (edge d x) (edge d y) d d)
       ≡ (not (columnStep l (edge d x) (edge d y) d) || (not (rowStep l (edge d x) (edge d y) d) || corner-test d))
   unfolding diagonalStep

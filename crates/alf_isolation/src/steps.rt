@@ -33,8 +33,8 @@ fn step_is_open(size: u32, ctb: u32, boundaries: &[u16], disabled: bool, b: u32)
     ((0 < b) & (b < size)) & (!is_listed(boundaries, b) & ((b % ctb != 0) | !disabled))
 }
 
-// The ends of the block at place x along an axis, from what is disabled before and after its CTB: no step is open either at virtual
-// boundaries and at the picture's rim.
+// The ends of the block at place x along an axis, from whether filtering is disabled before and after its CTB. At a virtual boundary and at
+// the picture's rim no step is open either.
 fn block_ends(
     size: u32,
     ctb: u32,

@@ -30,7 +30,7 @@ corner-small : (b : Bool) → cornerBit b ≤ 1
 corner-small true = omega arith
 corner-small false = omega arith
 
--- the cause and the corner with a number
+-- back from the number of a cause, and of a corner
 cause-back : (c : ClipCause) {n : ℕ} → n ≡ causeNumber c → causeNumbered n ≡ c
 unfolding causeNumbered
 cause-back Open e = rw e

@@ -19,7 +19,7 @@ use alf_spec::Sides;
 // There are at most 128 by 128 CTBs.
 pub const CTBS: usize = 16384;
 
-// An entry for each CTB of the picture.
+// Writes an entry for each CTB of the picture into the table.
 pub fn plan_sides(
     picture: Picture,
     grid: Grid,

@@ -1,6 +1,6 @@
--- The fault of each operation that has an output, where its code has the answers to the operation's own tests. Assumes nothing.
-use mathlib.Core.Path.{_≡_, refl, sym, _∙_}
-use mathlib.Core.Bool.{Bool, true, false, not, _&&_, and-true}
+-- The fault of an operation, where its code has the answers to the operation's own tests. Assumes nothing.
+use mathlib.Core.Path.{_≡_, refl, sym, _∙_, ap}
+use mathlib.Core.Bool.{Bool, true, _&&_, and-true}
 use mathlib.Core.List.{List, []}
 use Prim.Native.Nat.{ℕ}
 use lib.Dec.{eqb}
@@ -12,9 +12,14 @@ use Rattle.alf_spec.specs.Input.{Layout, classes, Input, inputOf, classesInput}
 use Rattle.alf_spec.specs.Filters.{operationOf}
 use Rattle.alf_spec.specs.Geometry.{planeOf, lumaPlane, classPlane, planeLength}
 use Rattle.alf_spec.specs.Faults.{filterLengthsValid, fixedLengthsValid, lengthsValid, samplesValid, unless, layoutFault, tablesFault}
-use Rattle.alf_spec.proofs.Faults.{stops, goes}
 use Rattle.alf_validate_tables.specs.Tables.{mapLayout}
 use Rattle.alf_validate.specs.Filters.{ownLengthsValid}
+
+-- an operation that has one test after the layout's, of the fault n: the code has the answers v to its test of 5 and r to the last, the
+-- number k by that, and by all of them the number m
+pub last-judged : (l : Layout) (component : Bool) (n : ℕ) {v lengths r test : Bool} {k m : ℕ} → v ≡ lengths → r ≡ test → k ≡ unless r n 0
+    → m ≡ layoutFault l component v k → m ≡ layoutFault l component lengths (unless test n 0)
+last-judged l component n e f g h = h ∙ (λ t. layoutFault l component (e t) ((g ∙ ap (λ (b : Bool). unless b n 0) f) t))
 
 -- the class map's lengths: the code has the answers a to that of the plane, and b to that of the output
 pub classes-lengths : (l : Layout) (plane : List ℕ) (n : ℕ) {a b : Bool}
@@ -23,15 +28,11 @@ pub classes-lengths : (l : Layout) (plane : List ℕ) (n : ℕ) {a b : Bool}
 unfolding lengthsValid
 classes-lengths l plane n e f = rw (e, f)
 
--- of the causes after the layout's the class map has 12 alone: the code has the answer of its plane's test
-module _ (l : Layout) (plane : List ℕ) (n : ℕ) {r : Bool} (e : r ≡ samplesValid (l .picture) plane) where
-  pub classes-stop : not r ≡ true → 12 ≡ tablesFault classes (classesInput l plane n)
-  unfolding tablesFault unless
-  classes-stop q = stops 12 0 (e ∙ sym (and-true _)) q
-
-  pub classes-pass : not r ≡ false → 0 ≡ tablesFault classes (classesInput l plane n)
-  unfolding tablesFault unless
-  classes-pass q = goes 12 0 (e ∙ sym (and-true _)) q refl
+-- of the causes after the layout's the class map has 12 alone: the code has the answer r of its plane's test, and the number m by it
+pub classes-last : (l : Layout) (plane : List ℕ) (n : ℕ) {r : Bool} {m : ℕ} → r ≡ samplesValid (l .picture) plane → m ≡ unless r 12 0
+    → m ≡ tablesFault classes (classesInput l plane n)
+unfolding tablesFault unless
+classes-last l plane n e f = f ∙ ap (λ (b : Bool). unless b 12 0) (e ∙ sym (and-true _))
 
 -- ---- the lengths that a filter asks for
 
@@ -42,7 +43,7 @@ own-lengths Luma i = refl
 own-lengths (Chroma component) i = refl
 own-lengths (CrossComponent component) i = refl
 
--- its own look at the picture, the planes, the fixed tables and the output
+-- its own read the picture, the planes, the fixed tables and the output alone
 module _ (l : Layout) (sliceParams : List ℕ) (bank : List ℤ) (ctbParams ctbList lumaSamples chromaSamples : List ℕ) (fixedFilters : List ℤ)
     (fixedMap : List ℕ) (n : ℕ) where
   pub own-same : (f : Filter)

@@ -4,6 +4,7 @@ ghost use mathlib.Core.Bool.{true};
 ghost use Rattle.alf_spec.specs.Input.{layoutOf};
 ghost use Rattle.alf_spec.specs.Answers.{number};
 ghost use Rattle.alf_spec.specs.Faults.{positionValid, causesFault};
+use crate::answers::accepted_if;
 use alf_spec::Answer;
 use alf_spec::Fault;
 use alf_spec::Picture;
@@ -16,7 +17,7 @@ fn position_valid(picture: Picture, x: u32, y: u32) -> bool
     (x < picture.width) & (y < picture.height)
 }
 
-// The lowest cause for which the causes at a luma position are not named: those of a layout, then the position.
+// The lowest fault of a layout and a luma position at which the causes are asked for. The position is judged last.
 pub fn judge_causes(
     picture: Picture,
     virtual_columns: &[u16],
@@ -33,7 +34,7 @@ pub fn judge_causes(
         (now («tile_columns» .entry)) (now («tile_rows» .entry))
         (now («slice_map» .entry)) (now («subpic_map» .entry)) (now («subpic_across» .entry))) true x y ⌝ }
 {
-    let layout = layout_fault(
+    layout_fault(
         picture,
         virtual_columns,
         virtual_rows,
@@ -44,12 +45,6 @@ pub fn judge_causes(
         subpic_across,
         true,
         true,
-    );
-    let Answer::Accepted = layout else {
-        return layout;
-    };
-    if !position_valid(picture, x, y) {
-        return Answer::Rejected(Fault::Position);
-    }
-    Answer::Accepted
+        accepted_if(position_valid(picture, x, y), Fault::Position),
+    )
 }

@@ -3,6 +3,7 @@ ghost use mathlib.Core.Path.{_≡_};
 ghost use Rattle.alf_spec.specs.Input.{layoutOf};
 ghost use Rattle.alf_spec.specs.Answers.{number};
 ghost use Rattle.alf_spec.specs.Faults.{isolationFault};
+use crate::answers::accepted_if;
 use alf_spec::Answer;
 use alf_spec::Fault;
 use alf_spec::Picture;
@@ -10,7 +11,7 @@ use alf_validate_layout::layout::layout_fault;
 use alf_validate_tables::region::region_length_valid;
 use alf_validate_tables::region::region_valid;
 
-// The lowest cause for which the isolation test rejects its input, a layout and a region.
+// The lowest fault of the isolation test's input, a layout and a region. The region's entries are judged last.
 pub fn judge_isolation(
     picture: Picture,
     virtual_columns: &[u16],
@@ -26,8 +27,7 @@ pub fn judge_isolation(
         (now («tile_columns» .entry)) (now («tile_rows» .entry))
         (now («slice_map» .entry)) (now («subpic_map» .entry)) (now («subpic_across» .entry))) (now (region .entry)) ⌝ }
 {
-    let length_valid = region_length_valid(picture, region);
-    let layout = layout_fault(
+    layout_fault(
         picture,
         virtual_columns,
         virtual_rows,
@@ -37,13 +37,7 @@ pub fn judge_isolation(
         subpic_map,
         subpic_across,
         true,
-        length_valid,
-    );
-    let Answer::Accepted = layout else {
-        return layout;
-    };
-    if !region_valid(region) {
-        return Answer::Rejected(Fault::Region);
-    }
-    Answer::Accepted
+        region_length_valid(picture, region),
+        accepted_if(region_valid(region), Fault::Region),
+    )
 }

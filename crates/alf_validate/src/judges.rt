@@ -8,6 +8,7 @@ ghost use Rattle.alf_spec.specs.Answers.{number};
 ghost use Rattle.alf_spec.specs.Faults.{componentValid, fault};
 ghost use Rattle.alf_validate_tables.specs.Tables.{mapLayout};
 ghost use Rattle.alf_validate.specs.Filters.{ownLengthsValid};
+use crate::answers::accepted_if;
 use alf_spec::Answer;
 use alf_spec::Fault;
 use alf_spec::Filter;
@@ -57,14 +58,12 @@ pub fn judge_classes(
         subpic_across,
         true,
         lengths_valid,
+        Answer::Accepted,
     );
     let Answer::Accepted = layout else {
         return layout;
     };
-    if !samples_valid(picture, luma) {
-        return Answer::Rejected(Fault::Sample);
-    }
-    Answer::Accepted
+    accepted_if(samples_valid(picture, luma), Fault::Sample)
 }
 
 // Cause 4 of a filter: luma has no component to judge.
@@ -156,6 +155,7 @@ pub fn judge_filter(
         subpic_across,
         component_valid,
         tables_fit & lengths_valid,
+        Answer::Accepted,
     );
     let Answer::Accepted = layout else {
         return layout;

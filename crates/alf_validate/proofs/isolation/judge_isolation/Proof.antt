@@ -1,9 +1,9 @@
--- `alf_validate::isolation::judge_isolation` meets its contract: it goes on where the layout is accepted. Assumes nothing.
+-- `alf_validate::isolation::judge_isolation` meets its contract: the layout's answer, then that of the region. Assumes nothing.
 use mathlib.Core.Path.{refl}
 use mathlib.Core.Bool.{true}
 use borrow.Author.Needs.{needs}
 use Rattle.alf_spec.specs.Faults.{isolationFault}
-use Rattle.alf_spec.proofs.Faults.{stops, goes, lengths-same, layout-leaves, layout-goes}
+use Rattle.alf_validate.proofs.OwnTests.{last-judged}
 use Rattle.alf_validate.proofs.isolation.judge_isolation.Statement.{statement}
 use Rattle.alf_validate.proofs.isolation.judge_isolation.Tie as tie
 
@@ -12,21 +12,9 @@ unfolding isolationFault
 judge-isolation-spec =
     tie.close
     (tie.spec
-    (λ c κs. search needs) (λ c κs. search needs) (λ c. search needs) (λ c. search needs)
+    (λ c κs. search needs) (λ c κs. search needs) (λ c κs. search needs) (λ c κs. search needs)
     (λ c.
-    let called = c .before .before in
-    layout-leaves _ _ _ _ _ (lengths-same _ true (called .before .region-length-valid .ensures _ refl)) _ _
-    (called .layout-fault .ensures) (c .enum-told2 .given .1))
-    (λ c κs. search needs)
-    (λ c.
-    let told = c .before .before in
-    let called = told .before .before in
-    layout-goes _ _ _ _ _ (lengths-same _ true (called .before .region-length-valid .ensures _ refl)) _ _
-    (called .layout-fault .ensures) (told .enum-told .given .1)
-    (stops _ _ (c .before .region-valid .ensures) (c .if1 .taken)))
-    (λ c.
-    let told = c .before .before in
-    let called = told .before .before in
-    layout-goes _ _ _ _ _ (lengths-same _ true (called .before .region-length-valid .ensures _ refl)) _ _
-    (called .layout-fault .ensures) (told .enum-told .given .1)
-    (goes _ _ (c .before .region-valid .ensures) (c .if1 .left) refl)))
+    let last = c .before in
+    let tested = last .before in
+    last-judged _ true 14 (tested .before .region-length-valid .ensures _ refl) (tested .region-valid .ensures)
+    (last .accepted-if .ensures) (c .layout-fault .ensures)))

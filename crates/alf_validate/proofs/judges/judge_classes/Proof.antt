@@ -4,7 +4,7 @@ use Rattle.alf_spec.specs.Geometry.{planeOf}
 use Rattle.alf_spec.specs.Faults.{componentValid, fault}
 use Rattle.alf_spec.proofs.Faults.{layout-leaves, layout-goes}
 use Rattle.alf_validate.proofs.LowestFault.{depth-of}
-use Rattle.alf_validate.proofs.OwnTests.{classes-lengths, classes-stop, classes-pass}
+use Rattle.alf_validate.proofs.OwnTests.{classes-lengths, classes-last}
 use Rattle.alf_validate.proofs.judges.judge_classes.Statement.{statement}
 use Rattle.alf_validate.proofs.judges.judge_classes.Tie as tie
 
@@ -21,15 +21,11 @@ judge-classes-spec =
     (λ c κs.
     let j = c .before .before in
     depth-of _ _ _ _ (j .layout-fault .ensures) (c .enum-told .given .1))
+    (λ c κs. search needs)
     (λ c.
-    let t = c .before .before in
+    let tested = c .before in
+    let t = tested .before in
     let j = t .before .before in
     let same = classes-lengths _ _ _ (j .before .before .plane-fits .ensures) (j .before .plane-fits2 .ensures) in
     layout-goes _ _ _ _ _ same _ _ (j .layout-fault .ensures) (t .enum-told .given .1)
-    (classes-stop _ _ _ (c .before .samples-valid .ensures) (c .if1 .taken)))
-    (λ c.
-    let t = c .before .before in
-    let j = t .before .before in
-    let same = classes-lengths _ _ _ (j .before .before .plane-fits .ensures) (j .before .plane-fits2 .ensures) in
-    layout-goes _ _ _ _ _ same _ _ (j .layout-fault .ensures) (t .enum-told .given .1)
-    (classes-pass _ _ _ (c .before .samples-valid .ensures) (c .if1 .left))))
+    (classes-last _ _ _ (tested .samples-valid .ensures) (c .accepted-if .ensures))))
