@@ -1,10 +1,10 @@
 // The isolation test of a region: the sides of all CTBs first, then the blocks of a CTB at a time, row by row.
 ghost use mathlib.Core.Path.{_≡_};
-ghost use Prim.Native.Nat.{_+_, _*_, _/_, _%_, _≤_, _<_};
+ghost use Prim.Native.Nat.{_*_, _%_, _<_};
 ghost use Rattle.alf_spec.specs.Input.{layoutOf};
 ghost use Rattle.alf_spec.specs.Faults.{isolationFault};
 ghost use Rattle.alf_spec.specs.Isolation.{isolated};
-ghost use Rattle.alf_isolation.specs.Steps.{blocksAlong, rowTest, ctbTest, BlocksOf};
+ghost use Rattle.alf_isolation.specs.Steps.{blocksAlong, ctbTest, BlocksOf};
 use crate::neighbours::run_passes;
 use crate::steps::row_sides;
 use alf_math::grid::grid;
@@ -26,37 +26,7 @@ fn blocks_along(size: u32, ctb: u32, q: u32) -> u32
     if whole < rest { whole } else { rest }
 }
 
-// Whether each of so many blocks from column `first` on passes, in row y of blocks of a CTB with these sides.
-fn row_passes(
-    picture: Picture,
-    grid: Grid,
-    virtual_columns: &[u16],
-    virtual_rows: &[u16],
-    region: &[u8],
-    sides: Sides,
-    first: u32,
-    count: u32,
-    y: u32,
-) -> bool
-    requires { ⌜ (BlocksOf picture (grid .ctb) (now region)) × (first + count ≤ picture .width / 8) × (y < picture .height / 8) ⌝ }
-    ensures { λ r. ⌜ r ≡ rowTest picture (grid .ctb) (now («virtual_columns» .entry)) (now («virtual_rows» .entry)) (now (region .entry))
-        sides first count y ⌝ }
-{
-    let own = row_sides(picture.height, grid.ctb, virtual_rows, sides, y);
-    let from = y * (picture.width / 8);
-    run_passes(
-        picture.width,
-        grid.ctb,
-        virtual_columns,
-        region,
-        from,
-        own,
-        first,
-        count,
-    )
-}
-
-// Whether each block of the CTB passes.
+// Whether each block of the CTB passes. The sides of a row of blocks are found once.
 fn ctb_passes(
     picture: Picture,
     grid: Grid,
@@ -78,16 +48,18 @@ fn ctb_passes(
     let rows = blocks_along(picture.height, grid.ctb, ctb.row);
     let mut j = 0;
     while j < rows {
-        if !row_passes(
-            picture,
-            grid,
+        let y = top + j;
+        let own = row_sides(picture.height, grid.ctb, virtual_rows, sides, y);
+        let from = y * (picture.width / 8);
+        if !run_passes(
+            picture.width,
+            grid.ctb,
             virtual_columns,
-            virtual_rows,
             region,
-            sides,
+            from,
+            own,
             left,
             columns,
-            top + j,
         ) {
             return false;
         }
