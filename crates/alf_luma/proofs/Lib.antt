@@ -5,3 +5,4 @@ pub mod TapRows
 pub mod SpreadFilters
 pub mod SpreadRows
 pub mod PieceSamples
+pub mod BlockRows

@@ -12,7 +12,6 @@ ghost use Rattle.alf_spec.specs.declared.Ctb.{Ctb};
 ghost use Rattle.alf_math.specs.Grids.{AcceptedPicture};
 ghost use Rattle.alf_lists.specs.Regions.{between, inRect};
 ghost use Rattle.alf_pieces.specs.Pieces.{PieceOf, BlockPiece, CtbOf};
-ghost use Rattle.alf_pieces.specs.Copies.{extent as extentOf};
 ghost use Rattle.alf_taps.specs.Spread.{TapNumbers};
 ghost use Rattle.alf_luma.specs.Kernel.{rowFrom};
 ghost use Rattle.alf_params.specs.Filters.{LumaFilters};
@@ -122,36 +121,7 @@ fn filter_four(
     }
 }
 
-// A row of blocks: its filters are spread once.
-fn filter_blocks(
-    picture: Picture,
-    grid: Grid,
-    columns: Piece,
-    rows: Piece,
-    row: usize,
-    filters: &[i16],
-    orders: &[u8],
-    map: &[u8],
-    copy: &[u16],
-    taps: &mut [i16],
-    output: &mut [u16],
-)
-    requires { ⌜ (BlockRowInput picture grid (now filters) (now orders) (now taps) (length (now output)))
-        × (PieceCopy picture columns rows (now copy))
-        × (length (now map) ≡ 1024) × (MapOf picture (grid .ctb) (now copy) columns rows (now map)) × (row < extentOf rows / 4) ⌝ }
-    ensures { λ _. ⌜ (now (output .exit) ≡ painted (now (output .entry))
-        (inRect (picture .width) (columns .start) (columns .end) (rows .start + 4 * row) (rows .start + 4 * row + 4))
-        (lumaCopySampleAt picture (grid .ctb) (now (copy .entry)) columns rows (now (filters .entry))))
-        × (TapNumbers (now (taps .exit))) ⌝ }
-{
-    let n = extent(columns);
-    let left = columns.start as usize;
-    let top = rows.start as usize + 4 * row;
-    spread(filters, orders, map, row * BLOCKS, n / 4, taps);
-    filter_four(picture, grid, left, n, top, 4 * row, copy, taps, output);
-}
-
-// All rows of blocks.
+// All rows of blocks: the filters of each are spread once.
 fn filter_copy(
     picture: Picture,
     grid: Grid,
@@ -172,22 +142,14 @@ fn filter_copy(
         (lumaCopySampleAt picture (grid .ctb) (now (copy .entry)) columns rows (now (filters .entry))))
         × (TapNumbers (now (taps .exit))) ⌝ }
 {
+    let n = extent(columns);
     let count = extent(rows) / 4;
     let mut row: usize = 0;
     while row < count {
-        filter_blocks(
-            picture,
-            grid,
-            columns,
-            rows,
-            row,
-            filters,
-            orders,
-            map,
-            copy,
-            taps,
-            output,
-        );
+        let left = columns.start as usize;
+        let top = rows.start as usize + 4 * row;
+        spread(filters, orders, map, row * BLOCKS, n / 4, taps);
+        filter_four(picture, grid, left, n, top, 4 * row, copy, taps, output);
         row += 1;
     }
 }
