@@ -2,7 +2,7 @@
 -- position is rejected. Assumes nothing.
 use mathlib.Core.Path.{_≡_, refl}
 use mathlib.Core.Bool.{Bool, true, false}
-use mathlib.Core.List.{List, [], _∷_, map}
+use mathlib.Core.List.{List, [], _∷_}
 use Prim.Native.Nat.{ℕ}
 use lib.ListN.{replicate}
 use Rattle.alf_spec.specs.Input.{Layout, pictureOf, layoutOf}
@@ -23,40 +23,39 @@ quarters tiles slices columns rows =
 abbrev causes : Layout → ℕ → ℕ → List ℕ
 causes l x y = causeNumbers (causesAt l x y)
 
-pub record CauseExamples : Type 0 where
-  -- the picture's rim is open
-  pub rim : causes (quarters false false [] []) 0 0 ≡ 0 ∷ 0 ∷ 0 ∷ 0 ∷ []
-  -- tile, slice and subpicture all disable the side right of (31, 0); the switches take one after the other away
-  pub order : map (λ l. causes l 31 0) (quarters false false [] [] ∷ quarters true false [] [] ∷ quarters true true [] [] ∷ [])
-      ≡ (0 ∷ 0 ∷ 0 ∷ 3 ∷ []) ∷ (0 ∷ 0 ∷ 0 ∷ 4 ∷ []) ∷ (0 ∷ 0 ∷ 0 ∷ 5 ∷ []) ∷ []
-  -- from the other side, this CTB's own subpicture switch counts, and it is on
-  pub own-switch : causes (quarters true true [] []) 32 0 ≡ 0 ∷ 0 ∷ 0 ∷ 0 ∷ []
-  -- a virtual boundary is tested before the CTB's side, where 32 is both
-  pub virtual-side : map (λ x. causes (quarters false false (32 ∷ []) []) x 0) (31 ∷ 32 ∷ []) ≡ (0 ∷ 0 ∷ 0 ∷ 2 ∷ [])
-      ∷ (0 ∷ 0 ∷ 2 ∷ 0 ∷ []) ∷ []
-  -- down column 8: the line is 5 below row 23 and 4 below row 24, then above, with the slice below; row 34 is the last near that slice
-  pub down : map (causes (quarters false false [] []) 8) (23 ∷ 24 ∷ 28 ∷ 31 ∷ 32 ∷ 34 ∷ 35 ∷ [])
-      ≡ (0 ∷ 0 ∷ 0 ∷ 0 ∷ []) ∷ (0 ∷ 1 ∷ 0 ∷ 0 ∷ []) ∷ (1 ∷ 4 ∷ 0 ∷ 0 ∷ []) ∷ (1 ∷ 4 ∷ 0 ∷ 0 ∷ []) ∷ (4 ∷ 0 ∷ 0 ∷ 0 ∷ [])
-      ∷ (4 ∷ 0 ∷ 0 ∷ 0 ∷ []) ∷ (0 ∷ 0 ∷ 0 ∷ 0 ∷ []) ∷ []
-  -- a virtual row where the slice begins
-  pub virtual-row : map (causes (quarters false false [] (32 ∷ [])) 8) (28 ∷ 33 ∷ []) ≡ (1 ∷ 2 ∷ 0 ∷ 0 ∷ []) ∷ (2 ∷ 0 ∷ 0 ∷ 0 ∷ []) ∷ []
-  -- 15 is for a position outside, on either axis, and is judged last: 6 comes first; without room for the causes it is 5
-  pub accepted : causesFault (quarters false false (32 ∷ []) []) true 63 63 ≡ 0
-  pub outside : causesFault (quarters false false (32 ∷ []) []) true 64 63 ∷ causesFault (quarters false false (32 ∷ []) []) true 63 64
-      ∷ [] ≡ 15 ∷ 15 ∷ []
-  pub last : causesFault (quarters false false (4 ∷ []) []) true 64 63 ∷ causesFault (quarters false false (4 ∷ []) []) false 64 63
-      ∷ [] ≡ 6 ∷ 5 ∷ []
+pub sides :
+    -- the picture's rim is open
+    (causes (quarters false false [] []) 0 0 ≡ 0 ∷ 0 ∷ 0 ∷ 0 ∷ [])
+    -- tile, slice and subpicture all disable the side right of (31, 0); the switches take one after the other away
+    × (causes (quarters false false [] []) 31 0 ≡ 0 ∷ 0 ∷ 0 ∷ 3 ∷ [])
+    × (causes (quarters true false [] []) 31 0 ≡ 0 ∷ 0 ∷ 0 ∷ 4 ∷ [])
+    × (causes (quarters true true [] []) 31 0 ≡ 0 ∷ 0 ∷ 0 ∷ 5 ∷ [])
+    -- from the other side, this CTB's own subpicture switch counts, and it is on
+    × (causes (quarters true true [] []) 32 0 ≡ 0 ∷ 0 ∷ 0 ∷ 0 ∷ [])
+    -- a virtual boundary is tested before the CTB's side, where 32 is both
+    × (causes (quarters false false (32 ∷ []) []) 31 0 ≡ 0 ∷ 0 ∷ 0 ∷ 2 ∷ [])
+    × (causes (quarters false false (32 ∷ []) []) 32 0 ≡ 0 ∷ 0 ∷ 2 ∷ 0 ∷ [])
+    -- down column 8: the line is 5 below row 23 and 4 below row 24, then above, with the slice below; row 34 is the last near that slice
+    × (causes (quarters false false [] []) 8 23 ≡ 0 ∷ 0 ∷ 0 ∷ 0 ∷ [])
+    × (causes (quarters false false [] []) 8 24 ≡ 0 ∷ 1 ∷ 0 ∷ 0 ∷ [])
+    × (causes (quarters false false [] []) 8 28 ≡ 1 ∷ 4 ∷ 0 ∷ 0 ∷ [])
+    × (causes (quarters false false [] []) 8 31 ≡ 1 ∷ 4 ∷ 0 ∷ 0 ∷ [])
+    × (causes (quarters false false [] []) 8 32 ≡ 4 ∷ 0 ∷ 0 ∷ 0 ∷ [])
+    × (causes (quarters false false [] []) 8 34 ≡ 4 ∷ 0 ∷ 0 ∷ 0 ∷ [])
+    × (causes (quarters false false [] []) 8 35 ≡ 0 ∷ 0 ∷ 0 ∷ 0 ∷ [])
+    -- a virtual row where the slice begins
+    × (causes (quarters false false [] (32 ∷ [])) 8 28 ≡ 1 ∷ 2 ∷ 0 ∷ 0 ∷ [])
+    × (causes (quarters false false [] (32 ∷ [])) 8 33 ≡ 2 ∷ 0 ∷ 0 ∷ 0 ∷ [])
+unfolding computedResult columnCause rowCause causesAt
+sides = (refl, refl, refl, refl, refl, refl, refl, refl, refl, refl, refl, refl, refl, refl, refl, refl)
 
-pub cause-examples : CauseExamples
-unfolding computedResult computedFault columnCause rowCause causesAt
-cause-examples = record {
-  rim = refl;
-  order = refl;
-  own-switch = refl;
-  virtual-side = refl;
-  down = refl;
-  virtual-row = refl;
-  accepted = refl;
-  outside = refl;
-  last = refl;
-}
+pub numbers :
+    -- 15 is for a position outside, on either axis
+    (causesFault (quarters false false (32 ∷ []) []) true 63 63 ≡ 0)
+    × (causesFault (quarters false false (32 ∷ []) []) true 64 63 ≡ 15)
+    × (causesFault (quarters false false (32 ∷ []) []) true 63 64 ≡ 15)
+    -- and is judged last: 6 comes first; without room for the causes it is 5
+    × (causesFault (quarters false false (4 ∷ []) []) true 64 63 ≡ 6)
+    × (causesFault (quarters false false (4 ∷ []) []) false 64 63 ≡ 5)
+unfolding computedFault
+numbers = (refl, refl, refl, refl, refl)

@@ -67,36 +67,31 @@ twoCtbs flag0 flag1 list =
 abbrev filteredAt : Input → List Bool
 filteredAt i = map (isFiltered i (lumaPlane (i .layout)) (lumaOn i)) (31 ∷ 32 ∷ 95 ∷ 96 ∷ [])
 
-pub record SmallPictures : Type 0 where
-  -- the classes of P12's picture
-  pub class-map : result classes (input 16 3) ≡ 17 ∷ 96 ∷ 17 ∷ 84 ∷ []
-  -- of the texture: the classes of three blocks, one above the other, at column 8 and rows 20, 24 and 28
-  pub line-classes : map (classAt (ctb420 .layout) (ctb420 .luma)) (42 ∷ 50 ∷ 58 ∷ []) ≡ 67 ∷ 100 ∷ 35 ∷ []
-  -- luma at column 9, rows 23 to 31; chroma and cross-component at column 3, rows 10 to 15, or 24 to 31 where chroma has full height
-  pub line-luma : map (lumaSample ctb420 9) (countFrom 23 9) ≡ 394 ∷ 369 ∷ 346 ∷ 357 ∷ 308 ∷ 380 ∷ 380 ∷ 327 ∷ 303 ∷ []
-  pub line-chroma : map (chromaSample ctb420 0 3) (countFrom 10 6) ≡ 288 ∷ 334 ∷ 397 ∷ 303 ∷ 335 ∷ 376 ∷ []
-  pub line-cross : map (crossSample ctb420 1 3) (countFrom 10 6) ≡ 306 ∷ 327 ∷ 368 ∷ 300 ∷ 344 ∷ 379 ∷ []
-  pub line-chroma-422 : map (chromaSample ctb422 0 3) (countFrom 24 8) ≡ 391 ∷ 293 ∷ 325 ∷ 397 ∷ 299 ∷ 342 ∷ 374 ∷ 299 ∷ []
-  pub line-cross-422 : map (crossSample ctb422 1 3) (countFrom 24 8) ≡ 372 ∷ 309 ∷ 336 ∷ 368 ∷ 317 ∷ 342 ∷ 384 ∷ 301 ∷ []
-  pub line-chroma-444 : map (chromaSample ctb444 0 3) (countFrom 24 8) ≡ 391 ∷ 293 ∷ 325 ∷ 397 ∷ 299 ∷ 342 ∷ 374 ∷ 299 ∷ []
-  pub line-cross-444 : map (crossSample ctb444 1 3) (countFrom 24 8) ≡ 367 ∷ 325 ∷ 332 ∷ 379 ∷ 306 ∷ 343 ∷ 371 ∷ 320 ∷ []
-  -- what is filtered: listed CTBs whose flag is on, whatever their order and repeats
-  pub listed : map (λ list. filteredAt (twoCtbs 1 1 list)) ([] ∷ (1 ∷ []) ∷ (0 ∷ 1 ∷ []) ∷ (1 ∷ 1 ∷ 0 ∷ []) ∷ [])
-      ≡ replicate 4 false ∷ (false ∷ true ∷ false ∷ true ∷ []) ∷ replicate 4 true ∷ replicate 4 true ∷ []
-  pub flag-off : filteredAt (twoCtbs 1 0 (1 ∷ 0 ∷ [])) ≡ true ∷ false ∷ true ∷ false ∷ []
+-- ---- the claims
 
-pub small-pictures : SmallPictures
+pub numbers :
+    -- the classes of P12's picture
+    (result classes (input 16 3) ≡ 17 ∷ 96 ∷ 17 ∷ 84 ∷ [])
+    -- of the texture: the classes of three blocks, one above the other, at column 8 and rows 20, 24 and 28
+    × (map (classAt (ctb420 .layout) (ctb420 .luma)) (42 ∷ 50 ∷ 58 ∷ []) ≡ 67 ∷ 100 ∷ 35 ∷ [])
+    -- luma at column 9, rows 23 to 31
+    × (map (lumaSample ctb420 9) (countFrom 23 9) ≡ 394 ∷ 369 ∷ 346 ∷ 357 ∷ 308 ∷ 380 ∷ 380 ∷ 327 ∷ 303 ∷ [])
+    -- chroma and cross-component at column 3, rows 10 to 15, or 24 to 31 where chroma has full height
+    × (map (chromaSample ctb420 0 3) (countFrom 10 6) ≡ 288 ∷ 334 ∷ 397 ∷ 303 ∷ 335 ∷ 376 ∷ [])
+    × (map (crossSample ctb420 1 3) (countFrom 10 6) ≡ 306 ∷ 327 ∷ 368 ∷ 300 ∷ 344 ∷ 379 ∷ [])
+    × (map (chromaSample ctb422 0 3) (countFrom 24 8) ≡ 391 ∷ 293 ∷ 325 ∷ 397 ∷ 299 ∷ 342 ∷ 374 ∷ 299 ∷ [])
+    × (map (crossSample ctb422 1 3) (countFrom 24 8) ≡ 372 ∷ 309 ∷ 336 ∷ 368 ∷ 317 ∷ 342 ∷ 384 ∷ 301 ∷ [])
+    × (map (chromaSample ctb444 0 3) (countFrom 24 8) ≡ 391 ∷ 293 ∷ 325 ∷ 397 ∷ 299 ∷ 342 ∷ 374 ∷ 299 ∷ [])
+    × (map (crossSample ctb444 1 3) (countFrom 24 8) ≡ 367 ∷ 325 ∷ 332 ∷ 379 ∷ 306 ∷ 343 ∷ 371 ∷ 320 ∷ [])
 unfolding computedResult
-small-pictures = record {
-  class-map = refl;
-  line-classes = refl;
-  line-luma = refl;
-  line-chroma = refl;
-  line-cross = refl;
-  line-chroma-422 = refl;
-  line-cross-422 = refl;
-  line-chroma-444 = refl;
-  line-cross-444 = refl;
-  listed = refl;
-  flag-off = refl;
-}
+numbers = (refl, refl, refl, refl, refl, refl, refl, refl, refl)
+
+-- what is filtered: listed CTBs whose flag is on, whatever their order and repeats
+pub filtered :
+    (filteredAt (twoCtbs 1 1 []) ≡ replicate 4 false)
+    × (filteredAt (twoCtbs 1 1 (1 ∷ [])) ≡ false ∷ true ∷ false ∷ true ∷ [])
+    × (filteredAt (twoCtbs 1 1 (0 ∷ 1 ∷ [])) ≡ replicate 4 true)
+    × (filteredAt (twoCtbs 1 1 (1 ∷ 1 ∷ 0 ∷ [])) ≡ replicate 4 true)
+    × (filteredAt (twoCtbs 1 0 (1 ∷ 0 ∷ [])) ≡ true ∷ false ∷ true ∷ false ∷ [])
+unfolding computedResult
+filtered = (refl, refl, refl, refl, refl)

@@ -1,4 +1,5 @@
 // A small input of the luma filter in which the causes from one number to another are broken.
+ghost use Prim.Native.Nat.{_<_};
 use alf::number;
 use alf_print::print;
 use alf_print::print_number;
@@ -44,8 +45,18 @@ fn pick(n: u32, first: u32, last: u32, broken: u8, sound: u8) -> u8 {
     }
 }
 
-// 6 to 13, in the tables and the plane of the luma filter.
-fn judged(first: u32, last: u32) -> Answer {
+// 6 to 13, in the tables and the plane of the luma filter; with this parameter of the last CTB, this last fixed coefficient and this last
+// entry of the fixed map.
+pub fn judged(
+    first: u32,
+    last: u32,
+    at: usize,
+    parameter: u8,
+    coefficient: i16,
+    entry: u8,
+) -> Answer
+    requires { ⌜ at < 8 ⌝ }
+{
     let columns = [pick(6, first, last, 12, 8) as u16];
     let rows = [16u16];
     let tiles = [0u8, pick(7, first, last, 2, 0)];
@@ -56,10 +67,13 @@ fn judged(first: u32, last: u32) -> Answer {
     slice_params[0] = pick(10, first, last, 8, 7);
     let mut bank = [0i16; 6016];
     bank[0] = pick(11, first, last, 128, 127) as i16;
-    let ctb_params = [0u8; 32];
+    let mut ctb_params = [0u8; 32];
+    ctb_params[24 + at] = parameter;
     let addresses = [3u32, pick(13, first, last, 4, 0) as u32];
-    let fixed_filters = [0i16; 768];
-    let fixed_map = [0u8; 400];
+    let mut fixed_filters = [0i16; 768];
+    fixed_filters[767] = coefficient;
+    let mut fixed_map = [0u8; 400];
+    fixed_map[399] = entry;
     let mut luma = [0u16; 1600];
     luma[1599] = pick(12, first, last, 1, 0) as u16 * 255 + 1;
     judge_filter(
@@ -110,9 +124,9 @@ fn show_number(n: u32) {
     print(b"  ");
     print_number(n);
     print(b" -> ");
-    print_number(number(judged(n, n)) as u32);
+    print_number(number(judged(n, n, 0, 0, 0, 0)) as u32);
     print(b", ");
-    print_number(number(judged(n, 13)) as u32);
+    print_number(number(judged(n, 13, 0, 0, 0, 0)) as u32);
     print(b"\n");
 }
 
@@ -131,7 +145,7 @@ pub fn show_all() {
     print(b"  14 -> ");
     print_number(number(judged_region(2)) as u32);
     print(b"\n  none -> ");
-    print_number(number(judged(15, 15)) as u32);
+    print_number(number(judged(15, 15, 0, 0, 0, 0)) as u32);
     print(b", ");
     print_number(number(judged_region(1)) as u32);
     print(b"\n");

@@ -1,5 +1,6 @@
 // A row for each thing that shares its number with others: the number answered where it alone is broken, beside a sound neighbour.
 ghost use Prim.Native.Nat.{_<_};
+use crate::damaged::judged;
 use alf::number;
 use alf_print::print;
 use alf_print::print_number;
@@ -75,39 +76,11 @@ fn show_tile_rows(text: &[u8], tile_rows: &[u8], region: &[u8]) {
 }
 
 // The luma filter of two by two CTBs under chroma mark 0, with this parameter of the last CTB, this last fixed coefficient and this last
-// entry of the fixed map.
+// entry of the fixed map, and nothing else broken.
 fn show_luma(text: &[u8], at: usize, parameter: u8, coefficient: i16, entry: u8)
     requires { ⌜ at < 8 ⌝ }
 {
-    let mut ctb_params = [0u8; 32];
-    ctb_params[24 + at] = parameter;
-    let mut fixed_filters = [0i16; 768];
-    fixed_filters[767] = coefficient;
-    let mut fixed_map = [0u8; 400];
-    fixed_map[399] = entry;
-    show_answer(
-        text,
-        judge_filter(
-            Filter::Luma,
-            plain(40, 40, 5),
-            &[],
-            &[],
-            &[0; 2],
-            &[0; 2],
-            &[0; 4],
-            &[0; 4],
-            &[1; 64],
-            &[0; 11],
-            &[0; 6016],
-            &ctb_params,
-            &[],
-            &fixed_filters,
-            &fixed_map,
-            &[0; 1600],
-            &[],
-            1600,
-        ),
-    );
+    show_answer(text, judged(15, 15, at, parameter, coefficient, entry));
 }
 
 // The Cb filter of one CTB in 4:2:0, whose last chroma sample is this.

@@ -65,58 +65,56 @@ slices m = isolationFault (four m (replicate 4 0)) (replicate 25 0)
 abbrev subpics : List ℕ → ℕ
 subpics m = isolationFault (four (replicate 4 0) m) (replicate 25 0)
 
-pub record Borders : Type 0 where
-  -- a virtual boundary at 8: 2 before the sample at 10, 4 after the sample at 4
-  pub virtual-before : column (twoBlocks (8 ∷ [])) 10 7 ≡ 8
-  pub virtual-after : column (twoBlocks (8 ∷ [])) 4 10 ≡ 7
-  -- the class window reads by the clip positions of its block's first sample: the offsets −3 to −1 are clamped to the boundary
-  pub window-before : map windowColumn (0 ∷ 1 ∷ 2 ∷ 3 ∷ 4 ∷ 9 ∷ []) ≡ 8 ∷ 8 ∷ 8 ∷ 8 ∷ 9 ∷ 14 ∷ []
-  -- a disabled side at 32: the sample at 34 is the last with x < 3 in its CTB, the one at 28 the first with S − x < 5
-  pub side-before : column closed 34 31 ≡ 32
-  pub side-after : column closed 28 34 ≡ 31
-  -- the CTB down-right is of another slice: (32, 32), a neighbour of (31, 31), becomes (31, 32)
-  pub lower-right : paddedColumn cornered (lumaPlane cornered) 31 31 32 32 ∷ paddedRow cornered (lumaPlane cornered) 31 31 32 32
-      ∷ [] ≡ 31 ∷ 32 ∷ []
-  -- the line lies 2 chroma rows above the CTB's bottom: at 28 in 4:2:0, where chroma row 14 lies, and at 30 in 4:2:2
-  pub line-420 : chromaClip (formatted 1 []) 11 after ∷ chromaClip (formatted 1 []) 12 after ∷ chromaClip (formatted 1 []) 13 before
-      ∷ chromaClip (formatted 1 []) 14 before ∷ []
-      ≡ none ∷ some 28 ∷ none ∷ some 28 ∷ []
-  pub line-422 : chromaClip (formatted 2 []) 25 after ∷ chromaClip (formatted 2 []) 26 after ∷ chromaClip (formatted 2 []) 29 before
-      ∷ chromaClip (formatted 2 []) 30 before ∷ []
-      ≡ none ∷ some 30 ∷ none ∷ some 30 ∷ []
-  -- below, a virtual boundary comes before the line: that at 32 is found from row 28 on, though the line at 30 is nearer
-  pub virtual-first : map (λ y. chromaClip (formatted 3 (32 ∷ [])) y after) (27 ∷ 28 ∷ 29 ∷ 30 ∷ []) ≡ some 30 ∷ some 32
-      ∷ some 32 ∷ some 32 ∷ []
-  -- b or c different is forbidden for slices; any one different for subpictures
-  pub slice-maps : map slices ((1 ∷ 0 ∷ 0 ∷ 0 ∷ []) ∷ (0 ∷ 1 ∷ 0 ∷ 0 ∷ []) ∷ (0 ∷ 0 ∷ 1 ∷ 0 ∷ []) ∷ (0 ∷ 0 ∷ 0 ∷ 1 ∷ []) ∷ []) ≡ 0
-      ∷ 8 ∷ 8 ∷ 0 ∷ []
-  pub subpic-maps : map subpics ((1 ∷ 0 ∷ 0 ∷ 0 ∷ []) ∷ (0 ∷ 1 ∷ 0 ∷ 0 ∷ []) ∷ (0 ∷ 0 ∷ 1 ∷ 0 ∷ []) ∷ (0 ∷ 0 ∷ 0 ∷ 1 ∷ []) ∷ []) ≡ 9
-      ∷ 9 ∷ 9 ∷ 9 ∷ []
-  -- the step down-right into another slice is not open, nor a diagonal step over a disabled side
-  pub slice-around : isolated cornered (sliceRegion cornered 0) ≡ true
-  pub upper-slice : isolated stackedSlices (sliceRegion stackedSlices 0) ≡ true
-  -- tiles differ by their row too
-  pub upper-tile : isolated stackedTiles (tileRegion stackedTiles 0 0) ≡ true
-  -- the class at entry 7 of a row lies at luma column 28, that at entry 8 at column 32
-  pub classes-inside : map (outputInside classes twoSubpictures (subpicRegion twoSubpictures 0)) (7 ∷ 8 ∷ []) ≡ true ∷ false ∷ []
+-- ---- the claims
 
-pub borders : Borders
+-- where a read is moved to
+pub reads :
+    -- a virtual boundary at 8: 2 before the sample at 10, 4 after the sample at 4
+    (column (twoBlocks (8 ∷ [])) 10 7 ≡ 8)
+    × (column (twoBlocks (8 ∷ [])) 4 10 ≡ 7)
+    -- a disabled side at 32: the sample at 34 is the last with x < 3 in its CTB, the one at 28 the first with S − x < 5
+    × (column closed 34 31 ≡ 32)
+    × (column closed 28 34 ≡ 31)
+    -- the CTB down-right is of another slice: (32, 32), a neighbour of (31, 31), becomes (31, 32)
+    × (paddedColumn cornered (lumaPlane cornered) 31 31 32 32 ≡ 31)
+    × (paddedRow cornered (lumaPlane cornered) 31 31 32 32 ≡ 32)
+unfolding computedResult
+reads = (refl, refl, refl, refl, refl, refl)
+
+-- the class window reads by the clip positions of its block's first sample: the offsets −3 to −1 are clamped to the boundary
+pub window : map windowColumn (0 ∷ 1 ∷ 2 ∷ 3 ∷ 4 ∷ 9 ∷ []) ≡ 8 ∷ 8 ∷ 8 ∷ 8 ∷ 9 ∷ 14 ∷ []
+unfolding computedResult
+window = refl
+
+pub clips :
+    -- the line lies 2 chroma rows above the CTB's bottom: at 28 in 4:2:0, where chroma row 14 lies, and at 30 in 4:2:2
+    (map (λ y. chromaClip (formatted 1 []) y after) (11 ∷ 12 ∷ []) ≡ none ∷ some 28 ∷ [])
+    × (map (λ y. chromaClip (formatted 1 []) y before) (13 ∷ 14 ∷ []) ≡ none ∷ some 28 ∷ [])
+    × (map (λ y. chromaClip (formatted 2 []) y after) (25 ∷ 26 ∷ []) ≡ none ∷ some 30 ∷ [])
+    × (map (λ y. chromaClip (formatted 2 []) y before) (29 ∷ 30 ∷ []) ≡ none ∷ some 30 ∷ [])
+    -- below, a virtual boundary comes before the line: that at 32 is found from row 28 on, though the line at 30 is nearer
+    × (map (λ y. chromaClip (formatted 3 (32 ∷ [])) y after) (27 ∷ 28 ∷ 29 ∷ 30 ∷ []) ≡ some 30 ∷ some 32 ∷ some 32 ∷ some 32 ∷ [])
+unfolding computedResult
+clips = (refl, refl, refl, refl, refl)
+
+-- the number that a map is given in which one CTB of four differs: b or c is forbidden for slices, any one for subpictures
+pub maps :
+    (slices (1 ∷ 0 ∷ 0 ∷ 0 ∷ []) ∷ subpics (1 ∷ 0 ∷ 0 ∷ 0 ∷ []) ∷ [] ≡ 0 ∷ 9 ∷ [])
+    × (slices (0 ∷ 1 ∷ 0 ∷ 0 ∷ []) ∷ subpics (0 ∷ 1 ∷ 0 ∷ 0 ∷ []) ∷ [] ≡ 8 ∷ 9 ∷ [])
+    × (slices (0 ∷ 0 ∷ 1 ∷ 0 ∷ []) ∷ subpics (0 ∷ 0 ∷ 1 ∷ 0 ∷ []) ∷ [] ≡ 8 ∷ 9 ∷ [])
+    × (slices (0 ∷ 0 ∷ 0 ∷ 1 ∷ []) ∷ subpics (0 ∷ 0 ∷ 0 ∷ 1 ∷ []) ∷ [] ≡ 0 ∷ 9 ∷ [])
+unfolding computedFault
+maps = (refl, refl, refl, refl)
+
+pub regions :
+    -- the step down-right into another slice is not open, nor a diagonal step over a disabled side
+    (isolated cornered (sliceRegion cornered 0) ≡ true)
+    × (isolated stackedSlices (sliceRegion stackedSlices 0) ≡ true)
+    -- tiles differ by their row too
+    × (isolated stackedTiles (tileRegion stackedTiles 0 0) ≡ true)
+    -- the class at entry 7 of a row lies at luma column 28, that at entry 8 at column 32
+    × (outputInside classes twoSubpictures (subpicRegion twoSubpictures 0) 7 ≡ true)
+    × (outputInside classes twoSubpictures (subpicRegion twoSubpictures 0) 8 ≡ false)
 unfolding computedResult computedFault openStep columnStep rowStep diagonalStep inside staysInside isolated regionOf sliceRegion tileRegion
     subpicRegion outputInside
-borders = record {
-  virtual-before = refl;
-  virtual-after = refl;
-  window-before = refl;
-  side-before = refl;
-  side-after = refl;
-  lower-right = refl;
-  line-420 = refl;
-  line-422 = refl;
-  virtual-first = refl;
-  slice-maps = refl;
-  subpic-maps = refl;
-  slice-around = refl;
-  upper-slice = refl;
-  upper-tile = refl;
-  classes-inside = refl;
-}
+regions = (refl, refl, refl, refl, refl)

@@ -20,7 +20,7 @@ use Rattle.alf_spec.specs.Isolation.{inside}
 use Rattle.alf_spec.proofs.Lists.{tabulate-same, Each, map-same}
 use Rattle.alf_spec.proofs.IsolatedRegions.Inside.{Inside, SameInside, luma-inside}
 use Rattle.alf_spec.proofs.IsolatedRegions.TapPositions.{Around, here, luma-offsets, luma-taps, chroma-offsets, chroma-taps}
-use Rattle.alf_spec.proofs.IsolatedRegions.TapPositions.{cross-offsets, cross-taps}
+use Rattle.alf_spec.proofs.IsolatedRegions.TapPositions.{cross-taps}
 use Rattle.alf_spec.proofs.Ratios.{chroma-ratios}
 use Rattle.alf_spec.proofs.IsolatedRegions.Reach.{Reach, reach-luma, reach-window, reach-chroma, SameReads}
 
@@ -135,4 +135,4 @@ module _ (l : Layout) (region : List ℕ) (i j : Input) where
         let index = filters .ctbParams (6 + component) (omega arith) in
         let t = luma-inside l (subWidth (l .picture)) (subHeight (l .picture)) (2 * subHeight (l .picture)) region x y s in
         same-corrected (luma-reads l region (i .luma) (j .luma) reads _ _ t) (here 3 _ _) _
-        (crossTaps _ _ _) (cross-taps _ _ _ (cross-offsets _ _)) (old x y s) (λ n. cc index)
+        (crossTaps _ _ _) (cross-taps _ _ _ _) (old x y s) (λ n. cc index)

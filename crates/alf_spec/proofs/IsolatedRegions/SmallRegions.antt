@@ -1,21 +1,16 @@
 -- Regions that can be judged at sight: one of no block, a subpicture beside one that filters across its sides, a block beside a virtual
 -- boundary. Assumes nothing.
 use mathlib.Core.Path.{_≡_, refl}
-use mathlib.Core.Bool.{true, false}
+use mathlib.Core.Bool.{Bool, true, false}
 use mathlib.Core.List.{List, [], _∷_}
 use Prim.Native.Nat.{ℕ, zero, suc}
 use lib.ListN.{replicate, getD}
 use Rattle.alf_spec.specs.Input.{Layout}
-use Rattle.alf_spec.specs.Lists.{allBelow, everyFrom, elem, tabulate}
-use Rattle.alf_spec.specs.Geometry.{ctbSize, planeOf}
-use Rattle.alf_spec.specs.Boundary.{sliceOf, subpicOf, tileColumnOf, tileRowOf, tileDisables, sliceDisables, subpicDisables}
-use Rattle.alf_spec.specs.Boundary.{stepCause, columnSide, rowSide}
 use Rattle.alf_spec.specs.Isolation.{openStep, columnStep, rowStep, diagonalStep, inside, staysInside, isolated, regionOf}
 use Rattle.alf_spec.specs.Isolation.{subpicRegion}
-use Rattle.alf_spec.specs.Faults.{pictureSizeValid, ctbSizeValid, bitDepthValid, chromaFormatValid, layoutLengthsValid}
-use Rattle.alf_spec.specs.Faults.{virtualListValid, virtualBoundariesValid, followsAt, tileListValid, tilesValid, cornersValid}
-use Rattle.alf_spec.specs.Faults.{slicesValid, subpicturesValid, regionLengthValid, regionValid, unless, layoutFault, isolationFault}
+use Rattle.alf_spec.specs.Faults.{isolationFault}
 use Rattle.alf_spec.proofs.Tests.{at-all}
+use Rattle.alf_spec.proofs.Computed.{computedResult, computedFault}
 use Rattle.alf_spec.proofs.Examples.{picture, layout}
 
 zero-at : (n k : ℕ) → getD (replicate {A = ℕ} n 0) k 0 ≡ 0
@@ -43,31 +38,17 @@ twoBlocks columns = layout (picture 16 8 5 8 0 1) columns (0 ∷ []) (0 ∷ []) 
 abbrev leftBlock : List ℕ
 leftBlock = 1 ∷ 0 ∷ []
 
-pub record SmallRegions : Type 0 where
-  -- 01: two subpictures side by side in one tile and slice, no virtual boundary, left switch off, right on: the left area is shut, the
-  -- right is not
-  pub left-accepted : isolationFault twoSubpictures (subpicRegion twoSubpictures 0) ≡ 0
-  pub left : isolated twoSubpictures (subpicRegion twoSubpictures 0) ≡ true
-  pub right-accepted : isolationFault twoSubpictures (subpicRegion twoSubpictures 1) ≡ 0
-  pub right : isolated twoSubpictures (subpicRegion twoSubpictures 1) ≡ false
-  -- 01: a side step is shut on a virtual boundary
-  pub cut-accepted : isolationFault (twoBlocks (8 ∷ [])) leftBlock ≡ 0
-  pub cut : isolated (twoBlocks (8 ∷ [])) leftBlock ≡ true
-  pub uncut-accepted : isolationFault (twoBlocks []) leftBlock ≡ 0
-  pub uncut : isolated (twoBlocks []) leftBlock ≡ false
+-- the number that a region is given, and whether it is isolated
+abbrev judged : Layout → List ℕ → ℕ × Bool
+judged l region = (isolationFault l region, isolated l region)
 
-pub small-regions : SmallRegions
-unfolding allBelow everyFrom elem tabulate ctbSize planeOf sliceOf subpicOf tileColumnOf tileRowOf tileDisables sliceDisables subpicDisables
-    stepCause columnSide rowSide openStep columnStep rowStep diagonalStep inside staysInside isolated regionOf subpicRegion pictureSizeValid
-    ctbSizeValid bitDepthValid chromaFormatValid layoutLengthsValid virtualListValid virtualBoundariesValid followsAt tileListValid
-    tilesValid cornersValid slicesValid subpicturesValid regionLengthValid regionValid unless layoutFault isolationFault
-small-regions = record {
-  left-accepted = refl;
-  left = refl;
-  right-accepted = refl;
-  right = refl;
-  cut-accepted = refl;
-  cut = refl;
-  uncut-accepted = refl;
-  uncut = refl;
-}
+pub regions :
+    -- 01: two subpictures side by side in one tile and slice, no virtual boundary, left switch off, right on: the left area is shut, the
+    -- right is not
+    (judged twoSubpictures (subpicRegion twoSubpictures 0) ≡ (0, true))
+    × (judged twoSubpictures (subpicRegion twoSubpictures 1) ≡ (0, false))
+    -- 01: a side step is shut on a virtual boundary
+    × (judged (twoBlocks (8 ∷ [])) leftBlock ≡ (0, true))
+    × (judged (twoBlocks []) leftBlock ≡ (0, false))
+unfolding computedResult computedFault openStep columnStep rowStep diagonalStep inside staysInside isolated regionOf subpicRegion
+regions = (refl, refl, refl, refl)

@@ -4,7 +4,6 @@ use Prim.Native.Nat.{ℕ, _≤_}
 use native.Mathlib.Omega.{arith}
 use Rattle.alf_spec.specs.declared.LumaRows.{LumaRows}
 use Rattle.alf_spec.specs.declared.ChromaRows.{ChromaRows}
-use Rattle.alf_spec.specs.declared.CrossRows.{CrossRows}
 use Rattle.alf_spec.specs.Arithmetic.{distance}
 use Rattle.alf_spec.specs.Luma.{lumaRows, lumaPlus, lumaMinus}
 use Rattle.alf_spec.specs.Chroma.{chromaRows, chromaPlus, chromaMinus}
@@ -45,16 +44,10 @@ unfolding chromaPlus chromaMinus distance
 chroma-taps x y r h = (omega arith, omega arith)
 
 -- Table 47: offsets up to 2; the limit 3 stands here, so that the rule for luma serves
-abbrev pub CrossOffsets : CrossRows → Type 0
-CrossOffsets r = (r .y1 ≤ 3) × (r .y2 ≤ 3)
-
-pub cross-offsets : (line : Bool) (d : ℕ) → CrossOffsets (crossRows line d)
-unfolding crossRows
-cross-offsets line d = cond-three CrossOffsets (line && _) (line && _) _ _ _ (omega arith) (omega arith) (omega arith)
-
-pub cross-taps : (x y : ℕ) (r : CrossRows) → CrossOffsets r → Each (Around 3 x y) (crossTaps x y r)
-unfolding crossTaps distance
-cross-taps x y r h = omega arith
+pub cross-taps : (x y : ℕ) (line : Bool) (d : ℕ) → Each (Around 3 x y) (crossTaps x y (crossRows line d))
+unfolding crossRows crossTaps distance
+cross-taps x y line d =
+    cond-three (λ r. Each (Around 3 x y) (crossTaps x y r)) (line && _) (line && _) _ _ _ (omega arith) (omega arith) (omega arith)
 
 -- the sample itself is at distance 0
 pub here : (n x y : ℕ) → Around n x y (x, y)
