@@ -1,16 +1,16 @@
-// The classes of a CTB's blocks: a piece of its rows at a time, a piece of its columns at a time.
+// The classes of a CTB's blocks, a piece at a time.
 ghost use mathlib.Core.Path.{_≡_};
+ghost use Prim.Native.Nat.{_/_};
 ghost use lib.ListN.{length};
-ghost use Rattle.alf_pieces.specs.Pieces.{limitAlong, BlockPiece};
-ghost use Rattle.alf_pieces.specs.Walks.{Along};
-ghost use Rattle.alf_class_map.specs.ClassWork.{ClassWork, PieceClassified, ColumnsClassified, RowsClassified};
+ghost use Rattle.alf_pieces.specs.Pieces.{BlockPiece};
+ghost use Rattle.alf_pieces.specs.Walks.{Along, inWalk};
+ghost use Rattle.alf_class_map.specs.ClassWork.{ClassWork, PieceClassified, CtbClassified};
 use alf_boundary::clips::CtbAxis;
-use alf_boundary::clips::ctb_start;
 use alf_classify::piece_classes;
 use alf_pieces::copies::copy_piece;
 use alf_pieces::pieces::Piece;
-use alf_pieces::pieces::ctb_limit;
-use alf_pieces::pieces::piece_at;
+use alf_pieces::walks::first_piece;
+use alf_pieces::walks::next_piece;
 use alf_spec::Grid;
 use alf_spec::Picture;
 use alf_spec::Sides;
@@ -46,44 +46,7 @@ fn class_piece(
     );
 }
 
-// The classes of the CTB's blocks in a piece of its rows: those of every piece along the axis of columns.
-fn class_strip(
-    picture: Picture,
-    grid: Grid,
-    sides: Sides,
-    columns: CtbAxis,
-    virtual_columns: &[u16],
-    rows: Piece,
-    luma: &[u16],
-    copy: &mut [u16],
-    differences: &mut [u16],
-    map: &mut [u8],
-)
-    requires { ⌜ (ClassWork picture grid (now luma) (length (now copy)) (length (now differences)) (length (now map)))
-        × (Along columns (now «virtual_columns»)) × (columns .size ≡ picture .width) × (BlockPiece (picture .height) rows) ⌝ }
-    ensures { λ _. ⌜ ColumnsClassified picture sides columns (now («virtual_columns» .entry)) rows (now (luma .entry)) (limitAlong columns)
-        (now (map .entry)) (now (map .exit)) ⌝ }
-{
-    let right = ctb_limit(columns);
-    let mut x = ctb_start(columns);
-    while x < right {
-        let piece = piece_at(columns, virtual_columns, x);
-        class_piece(
-            picture,
-            grid,
-            sides,
-            piece,
-            rows,
-            luma,
-            copy,
-            differences,
-            map,
-        );
-        x = piece.end;
-    }
-}
-
-// The classes of the CTB's blocks: those of every piece along the axis of rows.
+// The classes of the blocks of the CTB through which these axes go.
 pub(crate) fn class_ctb(
     picture: Picture,
     grid: Grid,
@@ -100,25 +63,24 @@ pub(crate) fn class_ctb(
     requires { ⌜ (ClassWork picture grid (now luma) (length (now copy)) (length (now differences)) (length (now map)))
         × (Along columns (now «virtual_columns»)) × (columns .size ≡ picture .width) × (Along rows (now «virtual_rows»))
         × (rows .size ≡ picture .height) ⌝ }
-    ensures { λ _. ⌜ RowsClassified picture sides columns (now («virtual_columns» .entry)) rows (now («virtual_rows» .entry))
-        (now (luma .entry)) (limitAlong rows) (now (map .entry)) (now (map .exit)) ⌝ }
+    ensures { λ _. ⌜ CtbClassified picture sides columns (now («virtual_columns» .entry)) rows (now («virtual_rows» .entry))
+        (now (luma .entry)) (inWalk (picture .width / 4) 4 4 columns rows) (now (map .entry)) (now (map .exit)) ⌝ }
 {
-    let bottom = ctb_limit(rows);
-    let mut y = ctb_start(rows);
-    while y < bottom {
-        let piece = piece_at(rows, virtual_rows, y);
-        class_strip(
+    let mut at = first_piece(columns, virtual_columns, rows, virtual_rows);
+    while at.left {
+        let across = at.columns;
+        let down = at.rows;
+        class_piece(
             picture,
             grid,
             sides,
-            columns,
-            virtual_columns,
-            piece,
+            across,
+            down,
             luma,
             copy,
             differences,
             map,
         );
-        y = piece.end;
+        at = next_piece(columns, virtual_columns, rows, virtual_rows, at);
     }
 }

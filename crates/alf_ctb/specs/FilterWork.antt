@@ -1,6 +1,6 @@
--- What the functions that filter a piece, a strip of pieces and a CTB are given, and what they leave. Assumes nothing.
+-- What the functions that filter a piece and a CTB are given, and what they leave. Assumes nothing.
 use mathlib.Core.Path.{_≡_}
-use mathlib.Core.Bool.{true}
+use mathlib.Core.Bool.{Bool, true}
 use mathlib.Core.List.{List}
 use Prim.Native.Nat.{ℕ, _+_, _*_, _/_, _≤_, _<_}
 use lib.IntN.{ℤ, pos}
@@ -19,9 +19,9 @@ use Rattle.alf_math.specs.Grids.{AcceptedPicture}
 use Rattle.alf_math.specs.Integers.{CoeffRange, ClipRange}
 use Rattle.alf_boundary.specs.declared.clips.CtbAxis.{CtbAxis}
 use Rattle.alf_pieces.specs.declared.pieces.Piece.{Piece}
-use Rattle.alf_lists.specs.Regions.{inRect}
-use Rattle.alf_pieces.specs.Pieces.{limitAlong, PieceOf, CtbOf}
-use Rattle.alf_pieces.specs.Walks.{PiecesAlong}
+use Rattle.alf_pieces.specs.declared.walks.CtbWalk.{CtbWalk}
+use Rattle.alf_pieces.specs.Pieces.{PieceOf, CtbOf}
+use Rattle.alf_pieces.specs.Walks.{PiecesAlong, inPiece, inWalk, passed}
 use Rattle.alf_pieces.specs.Copies.{area}
 use Rattle.alf_taps.specs.Spread.{TapNumbers}
 use Rattle.alf_params.specs.Filters.{FilterNumbers}
@@ -64,33 +64,31 @@ Numbers Luma filters = FilterNumbers filters
 Numbers (Chroma component) filters = ChromaNumbers filters
 Numbers (CrossComponent component) filters = CrossNumbers filters
 
--- a part of the filter's plane is filtered, from the luma column x up to x′ and the luma row y up to y′: `new` is `old` with the samples
--- that lie there written anew, for every input in which a CTB has these sides and this filter's numbers, and its pieces are as the two
--- conditions say
+-- a part of the filter's plane is filtered: `new` is `old` with its samples written anew, for every input in which a CTB has these sides
+-- and this filter's numbers, and its pieces are as the two conditions say
 abbrev pub Filtered : Filter → Picture → Sides → List ℕ → List ℕ → List ℤ → (Axis → (Side → ClipCause) → ℕ → Type 0)
-    → (Axis → (Side → ClipCause) → ℕ → Type 0) → ℕ → ℕ → ℕ → ℕ → List ℕ → List ℕ → Type 0
-Filtered f p sides lumaSamples chromaSamples filters Columns Rows x x′ y y′ old new =
+    → (Axis → (Side → ClipCause) → ℕ → Type 0) → (ℕ → Bool) → List ℕ → List ℕ → Type 0
+Filtered f p sides lumaSamples chromaSamples filters Columns Rows part old new =
     (i : Input) (c : Ctb) → CtbOf (i .layout) p c sides → i .luma ≡ lumaSamples → i .chroma ≡ chromaSamples → OwnFilter f i c filters
     → Columns (walkPlane f (i .layout) .columns) (columnSide (i .layout) c) (c .column)
     → Rows (walkPlane f (i .layout) .rows) (rowSide (i .layout) c) (c .row)
-    → new ≡ painted old (inRect (p .width / columnRatio f p) (x / columnRatio f p) (x′ / columnRatio f p) (y / rowRatio f p)
-    (y′ / rowRatio f p)) (atIndex (outputPlane (operationOf f) (i .layout)) (sampleOf f i))
+    → new ≡ painted old part (atIndex (outputPlane (operationOf f) (i .layout)) (sampleOf f i))
 
 -- a piece is filtered
 abbrev pub PieceFiltered : Filter → Picture → Sides → Piece → Piece → List ℕ → List ℕ → List ℤ → List ℕ → List ℕ → Type 0
 PieceFiltered f p sides columns rows lumaSamples chromaSamples filters =
     Filtered f p sides lumaSamples chromaSamples filters (λ a side q. PieceOf a side q columns) (λ a side q. PieceOf a side q rows)
-    (columns .start) (columns .end) (rows .start) (rows .end)
+    (inPiece (p .width / columnRatio f p) (columnRatio f p) (rowRatio f p) columns rows)
 
--- the pieces along an axis of columns up to x are filtered, in a piece of rows
-abbrev pub ColumnsFiltered : Filter → Picture → Sides → CtbAxis → List ℕ → Piece → List ℕ → List ℕ → List ℤ → ℕ → List ℕ → List ℕ → Type 0
-ColumnsFiltered f p sides columns virtualColumns rows lumaSamples chromaSamples filters x =
-    Filtered f p sides lumaSamples chromaSamples filters (PiecesAlong columns virtualColumns) (λ a side q. PieceOf a side q rows)
-    (columns .place * columns .ctb) x (rows .start) (rows .end)
-
--- the pieces along an axis of rows up to y are filtered, over all pieces along the axis of columns
-abbrev pub RowsFiltered : Filter → Picture → Sides → CtbAxis → List ℕ → CtbAxis → List ℕ → List ℕ → List ℕ → List ℤ → ℕ → List ℕ → List ℕ
-    → Type 0
-RowsFiltered f p sides columns virtualColumns rows virtualRows lumaSamples chromaSamples filters y =
+-- a part of the CTB through which these axes go is filtered
+abbrev pub AxesFiltered : Filter → Picture → Sides → CtbAxis → List ℕ → CtbAxis → List ℕ → List ℕ → List ℕ → List ℤ → (ℕ → Bool) → List ℕ
+    → List ℕ → Type 0
+AxesFiltered f p sides columns virtualColumns rows virtualRows lumaSamples chromaSamples filters =
     Filtered f p sides lumaSamples chromaSamples filters (PiecesAlong columns virtualColumns) (PiecesAlong rows virtualRows)
-    (columns .place * columns .ctb) (limitAlong columns) (rows .place * rows .ctb) y
+
+-- in the plane that a filter writes, the samples of the CTB through which these axes go, and those that a walk over its pieces has passed
+abbrev pub inFiltered : Filter → Picture → CtbAxis → CtbAxis → ℕ → Bool
+inFiltered f p = inWalk (p .width / columnRatio f p) (columnRatio f p) (rowRatio f p)
+
+abbrev pub passedBy : Filter → Picture → CtbAxis → CtbAxis → CtbWalk → ℕ → Bool
+passedBy f p = passed (p .width / columnRatio f p) (columnRatio f p) (rowRatio f p)

@@ -1,17 +1,14 @@
-// A CTB, filtered: a piece of its rows at a time, a piece of its columns at a time.
+// A CTB, filtered, a piece at a time.
 ghost use mathlib.Core.Path.{_≡_};
 ghost use lib.ListN.{length};
-ghost use Rattle.alf_pieces.specs.Pieces.{limitAlong, BlockPiece};
 ghost use Rattle.alf_pieces.specs.Walks.{Along};
 ghost use Rattle.alf_taps.specs.Spread.{TapNumbers};
 ghost use Rattle.alf_ctb.specs.Filters.{walkLine};
-ghost use Rattle.alf_ctb.specs.FilterWork.{FilterInput, FilterRooms, Numbers, ColumnsFiltered, RowsFiltered};
+ghost use Rattle.alf_ctb.specs.FilterWork.{FilterInput, FilterRooms, Numbers, AxesFiltered, inFiltered};
 use crate::pieces::filter_piece;
 use alf_boundary::clips::CtbAxis;
-use alf_boundary::clips::ctb_start;
-use alf_pieces::pieces::Piece;
-use alf_pieces::pieces::ctb_limit;
-use alf_pieces::pieces::piece_at;
+use alf_pieces::walks::first_piece;
+use alf_pieces::walks::next_piece;
 use alf_spec::Filter;
 use alf_spec::Grid;
 use alf_spec::Picture;
@@ -29,56 +26,7 @@ pub fn walk_line(filter: Filter) -> u32
     }
 }
 
-// The CTB's samples in a piece of its rows: those of every piece along the axis of columns.
-fn filter_strip(
-    filter: Filter,
-    picture: Picture,
-    grid: Grid,
-    sides: Sides,
-    columns: CtbAxis,
-    virtual_columns: &[u16],
-    rows: Piece,
-    luma: &[u16],
-    chroma: &[u16],
-    filters: &[i16],
-    orders: &[u8],
-    copy: &mut [u16],
-    differences: &mut [u16],
-    taps: &mut [i16],
-    output: &mut [u16],
-)
-    requires { ⌜ (FilterInput filter picture grid (now luma) (now chroma) (now orders)) × (Numbers filter (now filters))
-        × (FilterRooms filter picture (length (now copy)) (length (now differences)) (now taps) (length (now output)))
-        × (Along columns (now «virtual_columns»)) × (columns .size ≡ picture .width) × (BlockPiece (picture .height) rows) ⌝ }
-    ensures { λ _. ⌜ (ColumnsFiltered filter picture sides columns (now («virtual_columns» .entry)) rows (now (luma .entry))
-        (now (chroma .entry)) (now (filters .entry)) (limitAlong columns) (now (output .entry)) (now (output .exit)))
-        × (TapNumbers (now (taps .exit))) ⌝ }
-{
-    let right = ctb_limit(columns);
-    let mut x = ctb_start(columns);
-    while x < right {
-        let piece = piece_at(columns, virtual_columns, x);
-        filter_piece(
-            filter,
-            picture,
-            grid,
-            sides,
-            piece,
-            rows,
-            luma,
-            chroma,
-            filters,
-            orders,
-            copy,
-            differences,
-            taps,
-            output,
-        );
-        x = piece.end;
-    }
-}
-
-// The CTB's samples: those of every piece along the axis of rows. The axis's line is the filter's `walk_line`.
+// The samples of the CTB through which these axes go. The line of the axis of rows is the filter's `walk_line`.
 pub fn filter_ctb(
     filter: Filter,
     picture: Picture,
@@ -101,22 +49,21 @@ pub fn filter_ctb(
         × (FilterRooms filter picture (length (now copy)) (length (now differences)) (now taps) (length (now output)))
         × (Along columns (now «virtual_columns»)) × (columns .size ≡ picture .width) × (Along rows (now «virtual_rows»))
         × (rows .size ≡ picture .height) ⌝ }
-    ensures { λ _. ⌜ (RowsFiltered filter picture sides columns (now («virtual_columns» .entry)) rows (now («virtual_rows» .entry))
-        (now (luma .entry)) (now (chroma .entry)) (now (filters .entry)) (limitAlong rows) (now (output .entry)) (now (output .exit)))
-        × (TapNumbers (now (taps .exit))) ⌝ }
+    ensures { λ _. ⌜ (AxesFiltered filter picture sides columns (now («virtual_columns» .entry)) rows (now («virtual_rows» .entry))
+        (now (luma .entry)) (now (chroma .entry)) (now (filters .entry)) (inFiltered filter picture columns rows) (now (output .entry))
+        (now (output .exit))) × (TapNumbers (now (taps .exit))) ⌝ }
 {
-    let bottom = ctb_limit(rows);
-    let mut y = ctb_start(rows);
-    while y < bottom {
-        let piece = piece_at(rows, virtual_rows, y);
-        filter_strip(
+    let mut at = first_piece(columns, virtual_columns, rows, virtual_rows);
+    while at.left {
+        let across = at.columns;
+        let down = at.rows;
+        filter_piece(
             filter,
             picture,
             grid,
             sides,
-            columns,
-            virtual_columns,
-            piece,
+            across,
+            down,
             luma,
             chroma,
             filters,
@@ -126,6 +73,6 @@ pub fn filter_ctb(
             taps,
             output,
         );
-        y = piece.end;
+        at = next_piece(columns, virtual_columns, rows, virtual_rows, at);
     }
 }

@@ -13,3 +13,4 @@ pub mod CtbPieces
 pub mod CopyHolds
 pub mod ScaledPieces
 pub mod CtbRegions
+pub mod CtbWalks

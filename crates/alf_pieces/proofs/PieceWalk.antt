@@ -1,17 +1,14 @@
--- A loop over the pieces of a CTB along one axis: where it stands, how each piece carries it on, and how the part of a plane grows that it
--- has written. Assumes nothing.
-use mathlib.Core.Path.{_≡_, refl, sym, ap, _∙_, subst}
-use mathlib.Core.Logic.{inl, inr}
-use mathlib.Core.Bool.{Bool, true, false, _||_}
+-- A walk over the pieces of a CTB along one axis: where it stands, and how each piece carries it on. Assumes nothing.
+use mathlib.Core.Path.{_≡_, refl, ap, _∙_, subst}
+use mathlib.Core.Bool.{true}
 use mathlib.Core.List.{List}
-use Prim.Native.Nat.{ℕ, zero, suc, _-_, _*_, _/_, _≤_, _<_}
-use native.Mathlib.Nat.{mul-one, div-zero, div-mul-le-self, le-div-iff-mul-le}
+use Prim.Native.Nat.{ℕ, _*_, _/_, _≤_, _<_}
+use native.Mathlib.Nat.{mul-one}
 use native.Mathlib.Omega.{arith}
 use Rattle.alf_spec.specs.declared.ClipCause.{ClipCause}
 use Rattle.alf_spec.specs.declared.Picture.{Picture}
 use Rattle.alf_spec.specs.declared.Grid.{Grid}
 use Rattle.alf_spec.specs.declared.Sides.{Sides}
-use Rattle.alf_spec.specs.Lists.{painted}
 use Rattle.alf_spec.specs.Geometry.{Side, before, after, Axis, ctbSize, axisOf}
 use Rattle.alf_spec.specs.Faults.{sizeValid, virtualListValid}
 use Rattle.alf_spec.proofs.Accepted.{sizes-valid}
@@ -22,9 +19,6 @@ use Rattle.alf_math.proofs.Grids.{width-bounds, height-bounds}
 use Rattle.alf_boundary.specs.declared.clips.CtbAxis.{CtbAxis}
 use Rattle.alf_boundary.specs.Clips.{columnAxis, rowAxis, axisAlong, sidesAlong}
 use Rattle.alf_boundary.proofs.ClipRules.{sides-same}
-use Rattle.alf_lists.specs.Regions.{inRect}
-use Rattle.alf_lists.proofs.Painted.{paint-is, paint-of, paint-none, paint-call}
-use Rattle.alf_lists.proofs.Regions.{rect-none, rect-beside, rect-stacked}
 use Rattle.alf_pieces.specs.declared.pieces.Piece.{Piece}
 use Rattle.alf_pieces.specs.Pieces.{WalkLine, limitAlong, BlockAt, pieceAt, at-side, PieceOf, BlockPiece}
 use Rattle.alf_pieces.specs.Walks.{Along, Walk, Turn}
@@ -69,7 +63,7 @@ module _ {p : Picture} {g : Grid} (ok : AcceptedPicture p g) {list : List ℕ} w
   rows-along s q {line} walk valid begins =
       along (rowAxis p g s line q) refl (sizes-valid p (ok .sizes) .1) valid (height-bounds p (ok .sizes) (ok .ctbSize) .1) walk begins
 
--- ---- the loop
+-- ---- the walk
 
 -- a piece of the luma plane has whole blocks
 pub block-piece : {n ctb : ℕ} {list : List ℕ} {line : ℕ} {side : Side → ClipCause} {q : ℕ} {p : Piece}
@@ -82,7 +76,7 @@ module _ {a : CtbAxis} {list : List ℕ} (along : Along a list) where
   regular-along : Regular (axisAlong a list 1)
   regular-along = record { big = along .ctbLow; ctb8 = along .ctb8; size8 = along .size8; virtual8 = along .virtual8 }
 
-  -- the loop begins where the CTB does
+  -- the walk begins where the CTB does
   pub walk-start : {x : ℕ} → x ≡ a .place * a .ctb → Walk a list x
   walk-start e = record { from = omega arith; upto = omega (arith, along .begins); begins = λ _. at-side e }
 
@@ -119,58 +113,11 @@ module _ {a : CtbAxis} {list : List ℕ} (along : Along a list) where
           };
         }
 
--- the loop ends where the CTB does
+-- the walk ends where the CTB does
 pub walk-done : {a : CtbAxis} {list : List ℕ} {x end : ℕ} → Walk a list x → end ≡ limitAlong a → end ≤ x → x ≡ limitAlong a
 walk-done w limit h = omega (arith, w .upto)
 
--- the loop's measure
-pub turn-less : {a : CtbAxis} {list : List ℕ} {x end : ℕ} {p : Piece} → Turn a list x p → x < end → end - p .end < end - x
-turn-less t h = omega (arith, t .start, t .blocks .numbers .filled)
-
--- ---- what the loop has written
-
--- a part of a plane for every two places along an axis, from the first up to the second
-pub record Strips (part : ℕ → ℕ → ℕ → Bool) : Type 0 where
-  pub none : (x k : ℕ) → part x x k ≡ false
-  pub more : (x m x′ : ℕ) → x ≤ m → m ≤ x′ → (k : ℕ) → part x x′ k ≡ (part x m k || part m x′ k)
-
--- pieces of columns, side by side
-pub beside : (columns y y′ : ℕ) → Strips (λ x x′. inRect columns x x′ y y′)
-beside columns y y′ = record {
-  none = λ x k. rect-none columns x x y y′ k (inl (omega arith));
-  more = λ x m x′ low high k. rect-beside columns x m x′ y y′ low high k;
-}
-
--- pieces of rows, one above the other
-pub stacked : (columns x x′ : ℕ) → Strips (λ y y′. inRect columns x x′ y y′)
-stacked columns x x′ = record {
-  none = λ y k. rect-none columns x x′ y y k (inr (omega arith));
-  more = λ y m y′ low high k. rect-stacked columns x x′ y m y′ low high k;
-}
-
--- The loop writes from s, where the CTB begins, up to x: in the samples of a plane with this ratio to luma, from s / ratio up to x / ratio.
-
--- nothing is written yet
-pub written-none : {part : ℕ → ℕ → ℕ → Bool} → Strips part → (ratio : ℕ) (v : ℕ → ℕ) {old : List ℕ} {s x : ℕ} → x ≡ s
-    → old ≡ painted old (part (s / ratio) (x / ratio)) v
-written-none strips ratio v {s = s} e = rw e (paint-is (paint-none (strips .none (s / ratio))))
-
--- positions in order are, in the samples of a plane, still in order
-div-order : (ratio a b : ℕ) → a ≤ b → a / ratio ≤ b / ratio
-div-order zero a b h = simp div-zero (omega arith)
-div-order (suc r) a b h =
-    le-div-iff-mul-le {k = suc r} {x = a / suc r} (omega arith) .1 (omega (arith, div-mul-le-self a (suc r)))
-
--- a turn writes its piece beside what is written
-pub written-turn : {a : CtbAxis} {list : List ℕ} {x : ℕ} {p : Piece} {part : ℕ → ℕ → ℕ → Bool} → Strips part → (ratio : ℕ)
-    → Walk a list x → Turn a list x p → (v : ℕ → ℕ) (old : List ℕ) {ys zs : List ℕ}
-    → ys ≡ painted old (part (a .place * a .ctb / ratio) (x / ratio)) v → zs ≡ painted ys (part (p .start / ratio) (p .end / ratio)) v
-    → zs ≡ painted old (part (a .place * a .ctb / ratio) (p .end / ratio)) v
-written-turn {x = x} {p} {part} strips ratio w t v old so-far e =
-    let low = div-order ratio _ x (w .from) in
-    let high = div-order ratio x (p .end) (omega (arith, t .start, t .blocks .numbers .filled)) in
-    paint-is (paint-call (part (x / ratio) (p .end / ratio)) v (paint-of so-far) (rw (t .start) at e) (λ k h t. refl)
-    (λ k h. strips .more _ (x / ratio) (p .end / ratio) low high k))
+-- ---- a piece of another axis
 
 -- the same piece, of an axis and sides given otherwise
 pub same-piece : {a b : Axis} {side given : Side → ClipCause} {q : ℕ} {p : Piece} → a ≡ b → given before ≡ side before

@@ -2,3 +2,4 @@
 // over the copy clamps nothing.
 pub mod copies;
 pub mod pieces;
+pub mod walks;
