@@ -3,7 +3,7 @@
 # u16 (02, card 3). No contract can say this of the code that it stands on, so this reads the code, without comments and contracts. A
 # place in one of the two tables is an address, as wide as the machine has them, and nothing is worked out with it.
 set -u -o pipefail
-cd "$(dirname "$0")/../crates/alf_math/src" || exit 2
+cd "$(dirname "$0")/../crates/alf_direction/src" || exit 2
 files="direction.rt products.rt"
 failed=0
 

@@ -15,7 +15,7 @@ use crate::differences::all_differences;
 use crate::sums::block_sum;
 use crate::sums::column_sums;
 use alf_boundary::clips::line_rule;
-use alf_math::direction::class_of_sums;
+use alf_direction::direction::class_of_sums;
 use alf_math::windows::window_rows;
 use alf_pieces::copies::extent;
 use alf_pieces::pieces::Piece;

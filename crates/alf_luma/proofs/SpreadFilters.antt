@@ -15,7 +15,7 @@ use Rattle.alf_spec.specs.Luma.{tapOrder}
 use Rattle.alf_spec.specs.Process.{classNumber}
 use Rattle.alf_spec.proofs.TapOrder.{each-below}
 use Rattle.alf_math.specs.Integers.{CoeffRange, ClipRange}
-use Rattle.alf_math.proofs.Gradients.{class-range}
+use Rattle.alf_direction.proofs.Gradients.{class-range}
 use Rattle.alf_lists.specs.Regions.{inRect}
 use Rattle.alf_lists.specs.Filled.{Filled}
 use Rattle.alf_lists.proofs.Painted.{fill-in, fill-out}

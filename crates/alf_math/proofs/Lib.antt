@@ -1,8 +1,6 @@
 -- Laws that the proofs of this crate, and of those above it, cite.
 pub mod Clips
 pub mod CtbAddresses
-pub mod Gradients
 pub mod Grids
-pub mod Halves
 pub mod Magnitude
 pub mod TapByTap

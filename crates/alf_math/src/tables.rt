@@ -1,15 +1,7 @@
-// The constant tables of 8.8.5.2 and 8.8.5.3.
+// The order of the taps by transpose, a constant table of 8.8.5.2.
 ghost use mathlib.Core.Path.{_≡_};
 ghost use Prim.Native.Nat.{_<_};
-ghost use lib.ListN.{getD};
-ghost use Rattle.alf_spec.specs.Classes.{activityTable, transposeTable};
 ghost use Rattle.alf_spec.specs.Luma.{tapOrder};
-
-// varTab of (1498)
-const ACTIVITY: [u8; 16] = [0, 1, 2, 2, 2, 2, 2, 3, 3, 3, 3, 3, 3, 3, 3, 4];
-
-// transposeTable, above (1500)
-const TRANSPOSE: [u8; 8] = [0, 1, 0, 2, 2, 3, 1, 3];
 
 // idx of (1460) to (1463), a row for each transpose
 const TAP_ORDER: [[u8; 12]; 4] = [
@@ -18,20 +10,6 @@ const TAP_ORDER: [[u8; 12]; 4] = [
     [0, 3, 2, 1, 8, 7, 6, 5, 4, 9, 10, 11],
     [9, 8, 10, 4, 3, 7, 11, 5, 1, 0, 2, 6],
 ];
-
-pub fn activity_entry(k: u32) -> u8
-    requires { ⌜ k < 16 ⌝ }
-    ensures { λ r. ⌜ r ≡ getD activityTable k 0 ⌝ }
-{
-    ACTIVITY[k as usize]
-}
-
-pub fn transpose_entry(k: u32) -> u8
-    requires { ⌜ k < 8 ⌝ }
-    ensures { λ r. ⌜ r ≡ getD transposeTable k 0 ⌝ }
-{
-    TRANSPOSE[k as usize]
-}
 
 // Which coefficient and clip tap j uses.
 pub fn tap_order(transpose: usize, j: usize) -> usize

@@ -6,7 +6,7 @@ use native.Mathlib.Omega.{arith}
 use lib.Dec.{ltb}
 use borrow.Author.Tests.{ltb-true}
 use Rattle.alf_spec.proofs.Tests.{both}
-use Rattle.alf_math.proofs.Gradients.{four-below}
+use Rattle.alf_direction.proofs.Gradients.{four-below}
 use Rattle.direction_c.specs.FourSums.{sumsFit, scaleFits, hasClass}
 
 module _ (v h d0 d1 factor depth : ℕ) where

@@ -7,7 +7,7 @@ ghost use lib.Dec.{ltb};
 ghost use Rattle.alf_spec.specs.Classes.{classOfSums};
 ghost use Rattle.alf_spec.specs.Process.{classNumber};
 ghost use Rattle.direction_c.specs.FourSums.{sumsOf, hasClass};
-use alf_math::direction::class_of_sums;
+use alf_direction::direction::class_of_sums;
 use alf_spec::Sums;
 
 // Whether a * b < c * d.
@@ -15,7 +15,7 @@ use alf_spec::Sums;
 pub extern "C" fn direction_product_less(a: u32, b: u32, c: u32, d: u32) -> bool
     ensures { λ r. ⌜ r ≡ ltb (a * b) (c * d) ⌝ }
 {
-    alf_math::products::product_less(a, b, c, d)
+    alf_direction::products::product_less(a, b, c, d)
 }
 
 // Whether the sums are below 2^18, as those of a picture are, the factor at most 3 and the depth 8 to 12.

@@ -1,7 +1,7 @@
 // The class of four sums, and the comparison of products that decides it.
 ghost use Prim.Native.Nat.{_^_, _≤_, _<_};
-use alf_math::direction::class_of_sums;
-use alf_math::products::product_less;
+use alf_direction::direction::class_of_sums;
+use alf_direction::products::product_less;
 use alf_print::print;
 use alf_print::print_number;
 use alf_spec::Sums;

@@ -6,7 +6,7 @@ mod positions;
 ghost use Prim.Native.Nat.{_^_, _≤_, _<_};
 ghost use lib.IntN.{natAbs};
 ghost use Rattle.alf_math.specs.Integers.{ClipRange};
-use alf_math::direction::activity;
+use alf_direction::direction::activity;
 use alf_math::rounding::filtered;
 use alf_math::rounding::rounded;
 use alf_math::taps::tap;

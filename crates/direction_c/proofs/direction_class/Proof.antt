@@ -4,7 +4,7 @@ use mathlib.Core.Bool.{Bool, true, false}
 use Prim.Native.Nat.{_<_}
 use borrow.Author.Needs.{needs}
 use Rattle.alf_spec.specs.Process.{classNumber}
-use Rattle.alf_math.proofs.Gradients.{class-small}
+use Rattle.alf_direction.proofs.Gradients.{class-small}
 use Rattle.direction_c.specs.FourSums.{hasClass}
 use Rattle.direction_c.proofs.Ranges.{in-range}
 use Rattle.direction_c.proofs.direction_class.Statement.{statement}

@@ -4,7 +4,7 @@ use Prim.Native.Nat.{_<_}
 use borrow.Author.Needs.{needs}
 use Rattle.alf_spec.specs.Classes.{classOfSums}
 use Rattle.alf_spec.specs.Process.{classNumber}
-use Rattle.alf_math.proofs.Gradients.{class-small}
+use Rattle.alf_direction.proofs.Gradients.{class-small}
 use Rattle.alf_classify.proofs.ColumnSums.{four-sums}
 use Rattle.alf_classify.proofs.blocks.block_class.Statement.{statement}
 use Rattle.alf_classify.proofs.blocks.block_class.Tie as tie
