@@ -1,7 +1,7 @@
 -- The isolation claim at work: two pictures that differ outside a subpicture whose switch is off, in samples, CTB parameters and list. The
 -- premises hold, the luma filter changes samples inside, the two outputs differ outside, and with the switch on they would differ inside.
 -- Assumes nothing.
-use mathlib.Core.Path.{_≡_, refl}
+use mathlib.Core.Path.{_≡_, refl, ap}
 use mathlib.Core.Bool.{Bool, true, false≢true}
 use mathlib.Core.List.{List, [], _∷_, _++_}
 use Prim.Native.Nat.{ℕ, _+_, _*_, _<_}
@@ -22,7 +22,7 @@ use Rattle.alf_spec.proofs.Computed.{computedResult, computedFault}
 use Rattle.alf_spec.proofs.Tests.{implied, all-at}
 use Rattle.alf_spec.proofs.Examples.{repeated}
 use Rattle.alf_spec.proofs.IsolatedRegions.Inside.{Inside}
-use Rattle.alf_spec.proofs.IsolatedRegions.SmallRegions.{subpictures, twoSubpictures, small-regions}
+use Rattle.alf_spec.proofs.IsolatedRegions.SmallRegions.{subpictures, twoSubpictures, regions}
 use Rattle.alf_spec.proofs.TwoRuns.{TwoRuns, isolation}
 
 -- the left subpicture, whose switch is off
@@ -94,7 +94,7 @@ pub runs : TwoRuns luma region first second
 runs = record {
   firstAccepted = accepts .0;
   secondAccepted = accepts .1;
-  regionIsolated = small-regions .left;
+  regionIsolated = ap (λ (judged : ℕ × Bool). judged .1) (regions .0);
   layout = refl;
   sliceParams = λ _. refl;
   bank = λ _. refl;
