@@ -1,5 +1,5 @@
 -- What an answer of the judge says of the fault's number, and of what then stands in an output. Assumes nothing.
-use mathlib.Core.Path.{_≡_, refl, sym, _∙_, ap}
+use mathlib.Core.Path.{_≡_, refl, sym, _∙_, ap, subst}
 use Prim.Native.Nat.{ℕ, suc, pred}
 use Rattle.alf_spec.specs.declared.Fault.{Fault}
 use Rattle.alf_spec.specs.declared.Fault.the-variants.{PictureSize, CtbSize, BitDepth, ChromaFormat, Length, VirtualBoundary, Tile}
@@ -30,7 +30,7 @@ numbered Position = refl
 
 -- an input that is rejected leaves what stood there
 pub kept-old : {A : Type 0} (f : Fault) {n : ℕ} → faultNumber f ≡ n → (new : A) {old : A} → old ≡ kept n new old
-kept-old f e new = rw (← e, numbered f)
+kept-old f e new {old} = subst (λ (n : ℕ). old ≡ kept n new old) (sym (numbered f) ∙ e) refl
 
 -- an input that is accepted leaves what is new
 pub kept-new : {A : Type 0} {n : ℕ} → 0 ≡ n → {out new : A} (old : A) → out ≡ new → out ≡ kept n new old
