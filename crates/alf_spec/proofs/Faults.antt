@@ -55,11 +55,6 @@ module _ (l : Layout) (component lengths : Bool) (rest : ℕ) where
 
 -- ---- a judge that goes on after the layout's
 
--- the code has the answer v to the operation's test of 5
-pub lengths-same : (l : Layout) (component : Bool) {v lengths : Bool} → v ≡ lengths
-    → layoutFault l component v 0 ≡ layoutFault l component lengths 0
-lengths-same l component e = ap (λ (b : Bool). layoutFault l component b 0) e
-
 -- the code has the layout's answer a, where c and v are its own answers to the operation's tests of 4 and 5
 module _ (l : Layout) (component lengths c v : Bool) (same : layoutFault l c v 0 ≡ layoutFault l component lengths 0) (rest : ℕ)
     (a : Answer) (judged : number a ≡ layoutFault l c v 0) where
