@@ -54,21 +54,7 @@ plane-index-requires c κs =
     )
 
 returns : tie.Need-returns
-returns c =
-    let narrow : tie.After-sub-width = search needs in
-    let tall : tie.After-sub-height = search needs in
-    let long : tie.After-extent = search needs in
-    let table : tie.After-rows-at = search needs in
-    let read : tie.After-cross-starts = search needs in
-    let indexed : tie.After-plane-index = search needs in
-    rw (
-      indexed .plane-index .ensures,
-      read .cross-starts .ensures,
-      table .rows-at .ensures,
-      long .extent .ensures,
-      tall .sub-height .ensures .0,
-      narrow .sub-width .ensures .0,
-    )
+returns c = cc
 
 pub piece-row-spec : {M : Type 1} → statement M
 piece-row-spec =
