@@ -42,6 +42,6 @@ PieceClassified p sides columns rows luma =
     (inPiece (p .width / 4) 4 4 columns rows)
 
 -- those of a part of the CTB through which these axes go
-abbrev pub CtbClassified : Picture → Sides → CtbAxis → List ℕ → CtbAxis → List ℕ → List ℕ → (ℕ → Bool) → List ℕ → List ℕ → Type 0
-CtbClassified p sides columns virtualColumns rows virtualRows luma =
+abbrev pub AxesClassified : Picture → Sides → CtbAxis → List ℕ → CtbAxis → List ℕ → List ℕ → (ℕ → Bool) → List ℕ → List ℕ → Type 0
+AxesClassified p sides columns virtualColumns rows virtualRows luma =
     Classified p sides luma (PiecesAlong columns virtualColumns) (PiecesAlong rows virtualRows)

@@ -4,7 +4,7 @@ ghost use Prim.Native.Nat.{_/_};
 ghost use lib.ListN.{length};
 ghost use Rattle.alf_pieces.specs.Pieces.{BlockPiece};
 ghost use Rattle.alf_pieces.specs.Walks.{Along, inWalk};
-ghost use Rattle.alf_class_map.specs.ClassWork.{ClassWork, PieceClassified, CtbClassified};
+ghost use Rattle.alf_class_map.specs.ClassWork.{ClassWork, PieceClassified, AxesClassified};
 use alf_boundary::clips::CtbAxis;
 use alf_classify::piece_classes;
 use alf_pieces::copies::copy_piece;
@@ -63,11 +63,11 @@ pub(crate) fn class_ctb(
     requires { ⌜ (ClassWork picture grid (now luma) (length (now copy)) (length (now differences)) (length (now map)))
         × (Along columns (now «virtual_columns»)) × (columns .size ≡ picture .width) × (Along rows (now «virtual_rows»))
         × (rows .size ≡ picture .height) ⌝ }
-    ensures { λ _. ⌜ CtbClassified picture sides columns (now («virtual_columns» .entry)) rows (now («virtual_rows» .entry))
+    ensures { λ _. ⌜ AxesClassified picture sides columns (now («virtual_columns» .entry)) rows (now («virtual_rows» .entry))
         (now (luma .entry)) (inWalk (picture .width / 4) 4 4 columns rows) (now (map .entry)) (now (map .exit)) ⌝ }
 {
     let mut at = first_piece(columns, virtual_columns, rows, virtual_rows);
-    while at.left {
+    while at.there {
         let across = at.columns;
         let down = at.rows;
         class_piece(

@@ -54,7 +54,7 @@ pub fn filter_ctb(
         (now (output .exit))) × (TapNumbers (now (taps .exit))) ⌝ }
 {
     let mut at = first_piece(columns, virtual_columns, rows, virtual_rows);
-    while at.left {
+    while at.there {
         let across = at.columns;
         let down = at.rows;
         filter_piece(

@@ -151,7 +151,7 @@ module _ (l : Layout) (ok : AcceptedLayout l) (c : Ctb) (x y : ℕ)
       (block-crossing (lumaPlane l .columns) (regular-columns l ok 1 1 4) (columnDisabled l c) d x (inColumn d) (sym (column-open d d) ∙ o))
       (block-crossing (lumaPlane l .rows) (regular-rows l ok 1 1 4) (rowDisabled l c) d y (inRow d) (sym (row-open d d) ∙ p))
 
-  -- the steps up-left and down-right are shut by either side step, or by the slices at the corner
+  -- the steps up-left and down-right are closed by either side step, or by the slices at the corner
   corner-step : (d : Side) → not (diagonalStep l (edge d x) (edge d y) d d)
       ≡ (not (columnStep l (edge d x) (edge d y) d) || (not (rowStep l (edge d x) (edge d y) d) || corner-test d))
   unfolding diagonalStep

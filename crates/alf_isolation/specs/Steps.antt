@@ -29,8 +29,8 @@ stepOpen size ctb boundaries disabled b =
 -- the CTB ends there too
 abbrev pub blockEnds : ℕ → ℕ → List ℕ → Bool → Bool → ℕ → BlockEnds
 blockEnds size ctb boundaries disabledBefore disabledAfter x = record {
-  «shut_before» = not (stepOpen size ctb boundaries disabledBefore (8 * x));
-  «shut_after» = not (stepOpen size ctb boundaries disabledAfter (8 * x + 8));
+  «closed_before» = not (stepOpen size ctb boundaries disabledBefore (8 * x));
+  «closed_after» = not (stepOpen size ctb boundaries disabledAfter (8 * x + 8));
   «ctb_before» = eqb ((8 * x) % ctb) 0;
   «ctb_after» = eqb ((8 * x + 8) % ctb) 0;
 }
@@ -42,8 +42,8 @@ rowSides height ctb boundaries s y =
     record {
       left = disables (s .left);
       right = disables (s .right);
-      top = ends .«shut_before»;
-      bottom = ends .«shut_after»;
+      top = ends .«closed_before»;
+      bottom = ends .«closed_after»;
       «upper_left» = ends .«ctb_before» && s .«upper_left»;
       «lower_right» = ends .«ctb_after» && s .«lower_right»;
     }
@@ -53,8 +53,8 @@ unfoldable pub blockSides : ℕ → ℕ → List ℕ → BlockSides → ℕ → 
 blockSides width ctb boundaries s x =
     let ends = blockEnds width ctb boundaries (s .left) (s .right) x in
     record {
-      left = ends .«shut_before»;
-      right = ends .«shut_after»;
+      left = ends .«closed_before»;
+      right = ends .«closed_after»;
       top = s .top;
       bottom = s .bottom;
       «upper_left» = ends .«ctb_before» && s .«upper_left»;

@@ -19,8 +19,8 @@ pub struct BlockSides {
 
 // The two ends of a block along one axis: whether no step across is open, and whether the CTB ends there too.
 struct BlockEnds {
-    pub shut_before: bool,
-    pub shut_after: bool,
+    pub closed_before: bool,
+    pub closed_after: bool,
     pub ctb_before: bool,
     pub ctb_after: bool,
 }
@@ -49,8 +49,8 @@ fn block_ends(
     let before = 8 * x;
     let after = before + 8;
     BlockEnds {
-        shut_before: !step_is_open(size, ctb, boundaries, disabled_before, before),
-        shut_after: !step_is_open(size, ctb, boundaries, disabled_after, after),
+        closed_before: !step_is_open(size, ctb, boundaries, disabled_before, before),
+        closed_after: !step_is_open(size, ctb, boundaries, disabled_after, after),
         ctb_before: before % ctb == 0,
         ctb_after: after % ctb == 0,
     }
@@ -69,8 +69,8 @@ pub fn row_sides(height: u32, ctb: u32, boundaries: &[u16], sides: Sides, y: u32
     BlockSides {
         left: disables(left),
         right: disables(right),
-        top: ends.shut_before,
-        bottom: ends.shut_after,
+        top: ends.closed_before,
+        bottom: ends.closed_after,
         upper_left: ends.ctb_before & sides.upper_left,
         lower_right: ends.ctb_after & sides.lower_right,
     }
@@ -89,8 +89,8 @@ pub fn block_sides(
 {
     let ends = block_ends(width, ctb, boundaries, sides.left, sides.right, x);
     BlockSides {
-        left: ends.shut_before,
-        right: ends.shut_after,
+        left: ends.closed_before,
+        right: ends.closed_after,
         top: sides.top,
         bottom: sides.bottom,
         upper_left: ends.ctb_before & sides.upper_left,

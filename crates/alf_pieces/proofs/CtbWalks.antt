@@ -55,12 +55,12 @@ ahead a b w = (limitAlong b - w .rows .start) * 4097 + (limitAlong a - w .column
 module _ {a : CtbAxis} {virtualColumns : List ℕ} {b : CtbAxis} {virtualRows : List ℕ} {w : CtbWalk}
     (s : Stands a virtualColumns b virtualRows w) where
   -- at a piece
-  module _ (left : w .left ≡ true) where
+  module _ (there : w .there ≡ true) where
     across : Turn a virtualColumns (w .columns .start) (w .columns)
-    across = s .piece left .0
+    across = s .piece there .0
 
     down : Turn b virtualRows (w .rows .start) (w .rows)
-    down = s .piece left .1
+    down = s .piece there .1
 
     pub ahead-less : {v : CtbWalk} → a .size ≤ 4096 → Follows a w v → ahead a b v < ahead a b w
     ahead-less small (beside e f) = rw (e, f) (omega (arith, across .blocks .numbers .filled, across .next .upto))
@@ -91,10 +91,10 @@ module _ {a : CtbAxis} {virtualColumns : List ℕ} {b : CtbAxis} {virtualRows : 
           paint-is (paint-call _ value (paint-of so-far) e (λ k h t. refl) (λ k h. grows next k))
 
   -- behind the last piece
-  pub passed-all : w .left ≡ false → (width columnRatio rowRatio : ℕ) (value : ℕ → ℕ) (old : List ℕ) {ys : List ℕ}
+  pub passed-all : w .there ≡ false → (width columnRatio rowRatio : ℕ) (value : ℕ → ℕ) (old : List ℕ) {ys : List ℕ}
       → ys ≡ painted old (passed width columnRatio rowRatio a b w) value → ys ≡ painted old (inWalk width columnRatio rowRatio a b) value
-  passed-all left width columnRatio rowRatio value old so-far =
-      let end = s .done left in
+  passed-all over width columnRatio rowRatio value old so-far =
+      let end = s .done over in
       let none = rect-none width (a .place * a .ctb / columnRatio) (w .columns .start / columnRatio) (limitAlong b / rowRatio)
       (limitAlong b / rowRatio) in
       paint-is (paint-same (paint-of so-far)
@@ -114,7 +114,7 @@ module _ {a : CtbAxis} {virtualColumns : List ℕ} {b : CtbAxis} {virtualRows : 
 -- where both pieces are found, the walk stands there
 pub stands-at : {a : CtbAxis} {virtualColumns : List ℕ} {b : CtbAxis} {virtualRows : List ℕ} {x y : ℕ} {p q : Piece}
     → Walk a virtualColumns x → Walk b virtualRows y → Turn a virtualColumns x p → Turn b virtualRows y q
-    → Stands a virtualColumns b virtualRows (record { columns = p; rows = q; left = true })
+    → Stands a virtualColumns b virtualRows (record { columns = p; rows = q; there = true })
 stands-at {a} {virtualColumns} {b} {virtualRows} {p = p} {q} u v t s = record {
   columns = rw (t .start) u;
   rows = rw (s .start) v;

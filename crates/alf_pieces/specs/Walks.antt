@@ -49,9 +49,9 @@ PiecesAlong a list b side q = (p : Piece) → PieceOf (axisAlong a list 1) (side
 pub record Stands (a : CtbAxis) (virtualColumns : List ℕ) (b : CtbAxis) (virtualRows : List ℕ) (w : CtbWalk) : Type 0 where
   pub columns : Walk a virtualColumns (w .columns .start)
   pub rows : Walk b virtualRows (w .rows .start)
-  pub piece : w .left ≡ true
+  pub piece : w .there ≡ true
       → Turn a virtualColumns (w .columns .start) (w .columns) × Turn b virtualRows (w .rows .start) (w .rows)
-  pub done : w .left ≡ false → (w .rows .start ≡ limitAlong b) × (w .rows .end ≡ w .rows .start)
+  pub done : w .there ≡ false → (w .rows .start ≡ limitAlong b) × (w .rows .end ≡ w .rows .start)
 
 -- v comes next: its piece lies beside that of w, or it begins the rows below, where that is the last one of its rows
 pub data Follows (a : CtbAxis) (w v : CtbWalk) : Type 0 where

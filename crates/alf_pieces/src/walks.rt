@@ -9,11 +9,11 @@ use crate::pieces::piece_at;
 use alf_boundary::clips::CtbAxis;
 use alf_boundary::clips::ctb_start;
 
-// Where a walk stands: at a piece with these columns and rows, if one is left.
+// Where a walk stands: at a piece with these columns and rows, where there is one: else the walk is over.
 pub struct CtbWalk {
     pub columns: Piece,
     pub rows: Piece,
-    pub left: bool,
+    pub there: bool,
 }
 
 // The first piece of the CTB through which these axes go.
@@ -32,7 +32,7 @@ pub fn first_piece(
     CtbWalk {
         columns: across,
         rows: down,
-        left: true,
+        there: true,
     }
 }
 
@@ -45,7 +45,7 @@ pub fn next_piece(
     at: CtbWalk,
 ) -> CtbWalk
     requires { ⌜ (Along columns (now «virtual_columns»)) × (Along rows (now «virtual_rows»))
-        × (Stands columns (now «virtual_columns») rows (now «virtual_rows») at) × (at .left ≡ true) ⌝ }
+        × (Stands columns (now «virtual_columns») rows (now «virtual_rows») at) × (at .there ≡ true) ⌝ }
     ensures { λ r. ⌜ (Stands columns (now («virtual_columns» .entry)) rows (now («virtual_rows» .entry)) r) × (Follows columns at r) ⌝ }
 {
     let across = at.columns;
@@ -55,7 +55,7 @@ pub fn next_piece(
         return CtbWalk {
             columns: beside,
             rows: down,
-            left: true,
+            there: true,
         };
     }
     if down.end < ctb_limit(rows) {
@@ -64,7 +64,7 @@ pub fn next_piece(
         return CtbWalk {
             columns: first,
             rows: below,
-            left: true,
+            there: true,
         };
     }
     let none = Piece {
@@ -76,6 +76,6 @@ pub fn next_piece(
     CtbWalk {
         columns: across,
         rows: none,
-        left: false,
+        there: false,
     }
 }

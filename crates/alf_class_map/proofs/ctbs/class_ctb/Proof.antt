@@ -6,7 +6,7 @@ use borrow.Author.Needs.{needs}
 use lib.ListN.{length}
 use Rattle.alf_pieces.specs.Walks.{Stands, passed}
 use Rattle.alf_pieces.proofs.CtbWalks.{ahead, ahead-less, passed-none, passed-next, passed-all}
-use Rattle.alf_class_map.specs.ClassWork.{CtbClassified}
+use Rattle.alf_class_map.specs.ClassWork.{AxesClassified}
 use Rattle.alf_class_map.proofs.ClassInputs.{work-same}
 use Rattle.alf_class_map.proofs.ctbs.class_ctb.Statement.{statement}
 use Rattle.alf_class_map.proofs.ctbs.class_ctb.Tie as tie
@@ -15,7 +15,7 @@ abbrev Inv-loop : tie.InvT-loop
 Inv-loop picture grid sides columns virtual-columns rows virtual-rows luma copy₀ differences₀ map₀ at₀ copy differences map at =
     Stands columns virtual-columns rows virtual-rows at
     × (length copy ≡ length copy₀) × (length differences ≡ length differences₀) × (length map ≡ length map₀)
-    × CtbClassified picture sides columns virtual-columns rows virtual-rows luma (passed (picture .width / 4) 4 4 columns rows at) map₀ map
+    × AxesClassified picture sides columns virtual-columns rows virtual-rows luma (passed (picture .width / 4) 4 4 columns rows at) map₀ map
 
 abbrev μ-loop : tie.MeasureT-loop
 μ-loop picture grid sides columns virtual-columns rows virtual-rows luma copy₀ differences₀ map₀ at₀ copy differences map at =
