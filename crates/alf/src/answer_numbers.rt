@@ -6,7 +6,7 @@ use alf_spec::ClipCauses;
 use alf_spec::Fault;
 use alf_spec::Isolation;
 
-// The number of a fault, 1 to 15.
+// The number of a fault, 1 to 18.
 pub fn fault_number(fault: Fault) -> u8
     ensures { λ r. ⌜ r ≡ faultNumber fault ⌝ }
 {
@@ -26,6 +26,9 @@ pub fn fault_number(fault: Fault) -> u8
         Fault::Address => 13,
         Fault::Region => 14,
         Fault::Position => 15,
+        Fault::FieldCutShort => 16,
+        Fault::FieldUnlisted => 17,
+        Fault::FieldOutOfPlace => 18,
     }
 }
 

@@ -4,6 +4,7 @@ use Prim.Native.Nat.{ℕ, suc, pred}
 use Rattle.alf_spec.specs.declared.Fault.{Fault}
 use Rattle.alf_spec.specs.declared.Fault.the-variants.{PictureSize, CtbSize, BitDepth, ChromaFormat, Length, VirtualBoundary, Tile}
 use Rattle.alf_spec.specs.declared.Fault.the-variants.{Slice, Subpicture, Parameter, Filter, Sample, Address, Region, Position}
+use Rattle.alf_spec.specs.declared.Fault.the-variants.{FieldCutShort, FieldUnlisted, FieldOutOfPlace}
 use Rattle.alf_spec.specs.declared.Answer.{Answer}
 use Rattle.alf_spec.specs.declared.Answer.the-variants.{Accepted, Rejected}
 use Rattle.alf_spec.specs.Answers.{faultNumber, number, kept}
@@ -25,6 +26,9 @@ numbered Sample = refl
 numbered Address = refl
 numbered Region = refl
 numbered Position = refl
+numbered FieldCutShort = refl
+numbered FieldUnlisted = refl
+numbered FieldOutOfPlace = refl
 
 -- ---- what stands in an output of any type
 

@@ -7,6 +7,7 @@ use Prim.Native.Nat.{ℕ, zero, suc}
 use Rattle.alf_spec.specs.declared.Fault.{Fault}
 use Rattle.alf_spec.specs.declared.Fault.the-variants.{PictureSize, CtbSize, BitDepth, ChromaFormat, Length, VirtualBoundary, Tile}
 use Rattle.alf_spec.specs.declared.Fault.the-variants.{Slice, Subpicture, Parameter, Filter, Sample, Address, Region, Position}
+use Rattle.alf_spec.specs.declared.Fault.the-variants.{FieldCutShort, FieldUnlisted, FieldOutOfPlace}
 use Rattle.alf_spec.specs.declared.Answer.{Answer}
 use Rattle.alf_spec.specs.declared.Answer.the-variants.{Accepted, Rejected}
 use Rattle.alf_spec.specs.declared.Isolation.{Isolation}
@@ -34,6 +35,9 @@ faultNumber Sample = 12
 faultNumber Address = 13
 faultNumber Region = 14
 faultNumber Position = 15
+faultNumber FieldCutShort = 16
+faultNumber FieldUnlisted = 17
+faultNumber FieldOutOfPlace = 18
 
 -- accepted work returns 0
 abbrev pub number : Answer → ℕ

@@ -29,9 +29,13 @@ pictureSizeValid p = sizeValid (p .width) && sizeValid (p .height)
 unfoldable pub ctbSizeValid : Picture → Bool
 ctbSizeValid p = within 5 7 (p .«ctb_log2»)
 
--- 3: bit depth 8 to 12
+-- bit depth 8 to 12
+abbrev pub depthValid : ℕ → Bool
+depthValid depth = within 8 12 depth
+
+-- 3
 unfoldable pub bitDepthValid : Picture → Bool
-bitDepthValid p = within 8 12 (p .«bit_depth»)
+bitDepthValid p = depthValid (p .«bit_depth»)
 
 -- 4: chroma mark 0 to 3
 unfoldable pub chromaFormatValid : Picture → Bool
@@ -195,9 +199,12 @@ isClip n = cond (ltb n 600) (leb 12 (n % 24)) (ltb n 696 && leb 6 ((n - 600) % 1
 unfoldable pub bankNumberValid : ℕ → ℕ → ℤ → Bool
 bankNumberValid depth k z = cond (isClip (k % 752)) (clipValid depth z) (coeffValid z)
 
--- the whole bank, also filters that no CTB uses
+-- the numbers of a bank at a bit depth, also of filters that no CTB uses
+abbrev pub bankNumbersValid : ℕ → List ℤ → Bool
+bankNumbersValid depth bank = everyFrom 0 (bankNumberValid depth) bank
+
 unfoldable pub bankValid : Input → Bool
-bankValid i = everyFrom 0 (bankNumberValid (i .layout .picture .«bit_depth»)) (i .bank)
+bankValid i = bankNumbersValid (i .layout .picture .«bit_depth») (i .bank)
 
 -- entries of the fixed map 0 to 63
 unfoldable pub fixedValid : Input → Bool

@@ -40,6 +40,12 @@ pub enum Fault {
     Region,
     // a luma position outside the picture
     Position,
+    // of a bank file: a field that ends before the bytes that it calls for
+    FieldCutShort,
+    // a tag, a length or a leading number that is not listed
+    FieldUnlisted,
+    // a field that may not stand where it does: tag 1 missing, a filter out of order, repeated or all zero
+    FieldOutOfPlace,
 }
 
 // Which filter; a component is 0 (Cb) or 1 (Cr).
