@@ -232,7 +232,7 @@ fn numbers(layout: &Layout, given: &Given) -> bool {
     given.parameters.is_some_and(bad_bank) || given.fixed.is_some_and(bad_fixed)
 }
 
-fn bad_aps(aps: &[i16], bit_depth: u8) -> bool {
+pub(crate) fn bad_aps(aps: &[i16], bit_depth: u8) -> bool {
     aps.iter().enumerate().any(|(index, &number)| {
         if is_clip(index) {
             !(0..=1i64 << bit_depth).contains(&i64::from(number))

@@ -7,9 +7,11 @@
 //! equation and table numbers are those of H.266.
 //!
 //! Every operation first judges what it is given. It returns the number of the
-//! lowest cause of 01's table, with what 02 adds to it, that applies and then leaves
-//! its output alone, or it returns 0 and fills its output.
+//! lowest cause of 01's table, with what 02 adds to it, that applies (of a bank file, that
+//! applies to its first faulty field) and then leaves its output alone, or it returns 0
+//! and fills its output.
 
+mod bank_file;
 mod causes;
 mod classes;
 mod edges;
@@ -22,6 +24,7 @@ mod taps;
 #[cfg(test)]
 mod tests;
 
+pub use bank_file::{bank_read, bank_write};
 pub use causes::clip_causes;
 pub use classes::{class_of_sums, classes, Sums};
 pub use filters::{chroma, cross_component, luma};

@@ -1,6 +1,7 @@
-//! Tests of the model against 01's worked examples, its table of causes, random input
-//! and the independence of isolated regions.
+//! Tests of the model against 01's worked examples, its table of causes, random input,
+//! the independence of isolated regions and 02's bank files.
 
+mod bank_files;
 mod causes;
 mod faults;
 mod formats;
