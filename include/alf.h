@@ -4,14 +4,15 @@
  * that applies (enum alf_fault), and then nothing is written. It asks nothing of its caller but what C itself asks:
  *
  *   - a pointer is good for as many entries as the length beside it says, and aligned for its type; where the length is 0 it is not used
- *     and may be null. One pointer has no length beside it, alf_isolated's `isolated`: it is good for one byte, and never null;
+ *     and may be null. Three pointers have no length beside them, alf_isolated's `isolated`, alf_bank_write's `length` and
+ *     alf_bank_read's `bit_depth`: each is good for one number, and never null;
  *   - an output overlaps no input and no other output;
  *   - a bool is 0 or 1;
  *   - a stack with 384 KB left.
  *
  * Nothing is kept between calls and nothing is allocated; calls from several threads at once do not disturb each other.
  *
- * Each function begins with the picture and its boundary tables:
+ * The two functions of bank files are given no picture. Every other one begins with the picture and its boundary tables:
  *
  *   width, height       of the luma plane: multiples of 8, from 8 to 4096
  *   ctb_log2            5, 6 or 7; a CTB has S = 2^ctb_log2 luma samples a side
@@ -71,7 +72,10 @@ enum alf_fault {
     ALF_SAMPLE = 12,
     ALF_ADDRESS = 13,
     ALF_REGION = 14,
-    ALF_POSITION = 15
+    ALF_POSITION = 15,
+    ALF_FIELD_CUT_SHORT = 16,
+    ALF_FIELD_UNLISTED = 17,
+    ALF_FIELD_OUT_OF_PLACE = 18
 };
 
 /* What a returned number means, for a message. */
@@ -83,7 +87,7 @@ static inline const char *alf_meaning(uint8_t number)
         "CTB exponent is not 5, 6 or 7",
         "bit depth is not 8 to 12",
         "chroma format is not 0 to 3, or a chroma filter was asked for a picture without chroma or a component that is not 0 or 1",
-        "slice count is not 1 to 256, or a plane or a table does not have the length that the sizes call for",
+        "slice count is not 1 to 256, or a plane, a table or the room for a bank file does not have the length called for",
         "virtual boundaries are more than three, out of range, not multiples of 8, not rising or less than a CTB apart",
         "tile numbers do not begin at 0 or do not rise by 0 or 1",
         "slice map has a number that is not below the slice count, or a corner that slices cannot have",
@@ -94,6 +98,9 @@ static inline const char *alf_meaning(uint8_t number)
         "the list has an address that is not below the count of CTBs",
         "an entry of the region is not 0 or 1",
         "the position lies outside the picture",
+        "a field of the bank file is cut short",
+        "a field of the bank file has a tag, a length or a leading number that is not listed",
+        "a field of the bank file is out of place: the bit depth is not first, or a filter is out of order, repeated or all zero",
     };
     return number < sizeof meanings / sizeof meanings[0] ? meanings[number] : "not a number of this library";
 }
@@ -236,6 +243,33 @@ uint8_t alf_clip_causes(
     const uint8_t *subpic_across, size_t subpic_across_length,
     uint32_t x, uint32_t y,
     uint8_t *causes, size_t causes_length);
+
+/* A bank as a file, described in docs/bank-files.md: a row of fields of a tag (one byte), a length (two bytes, most significant first)
+ * and a value. One bank at one bit depth has one file. */
+enum {
+    ALF_BANK_NUMBERS = 6016,    /* the numbers of a bank: eight APSs of 752 */
+    ALF_BANK_FILE_BYTES = 10508 /* the bytes of the longest file: that of a bank in which no filter is all zero */
+};
+
+/* Writes the file of a bank at a bit depth. bank has ALF_BANK_NUMBERS numbers, in the order that is said above; file has room for
+ * ALF_BANK_FILE_BYTES or more, also where this bank's file is shorter. The file goes to the front of it, *length becomes how many bytes
+ * that is, and every byte behind them stays as it was. Where the number returned is not 0, nothing of file and *length is written.
+ * Judges the bit depth, the two lengths, and the coefficients and clips: 3, 5 and 11. */
+uint8_t alf_bank_write(
+    uint8_t bit_depth,
+    const int16_t *bank, size_t bank_length,
+    uint8_t *file, size_t file_length,
+    uint32_t *length);
+
+/* Reads a bank file: bank, of ALF_BANK_NUMBERS numbers, becomes the bank and *bit_depth the depth that it was written of. It accepts
+ * exactly the files that alf_bank_write makes; file_length is the length that alf_bank_write has returned, without the room behind it.
+ * Where the number returned is not 0, nothing of bank and *bit_depth is written. Judges the length of the bank, 5, before any field;
+ * then the first faulty field, and in it the lowest of 3, 11, 16, 17 and 18. A bit depth (3) or a clip (11) is judged only in a whole
+ * field of listed tag and length, a clip only behind a good bit depth. */
+uint8_t alf_bank_read(
+    const uint8_t *file, size_t file_length,
+    int16_t *bank, size_t bank_length,
+    uint8_t *bit_depth);
 
 #ifdef __cplusplus
 }

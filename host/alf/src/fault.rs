@@ -1,7 +1,8 @@
 //! Why an input is rejected.
 use std::fmt;
 
-/// The causes of rejection, in the order of their numbers. Where several apply, the lowest is returned.
+/// The causes of rejection, in the order of their numbers. Where several apply, the lowest is returned; of a bank file, the lowest of
+/// its first faulty field.
 #[derive(Clone, Copy, Debug, PartialEq, Eq)]
 #[repr(u8)]
 pub enum Fault {
@@ -20,11 +21,14 @@ pub enum Fault {
     Address = 13,
     Region = 14,
     Position = 15,
+    FieldCutShort = 16,
+    FieldUnlisted = 17,
+    FieldOutOfPlace = 18,
 }
 
 impl Fault {
     /// All of them, lowest first.
-    pub const ALL: [Fault; 15] = [
+    pub const ALL: [Fault; 18] = [
         Fault::PictureSize,
         Fault::CtbSize,
         Fault::BitDepth,
@@ -40,9 +44,12 @@ impl Fault {
         Fault::Address,
         Fault::Region,
         Fault::Position,
+        Fault::FieldCutShort,
+        Fault::FieldUnlisted,
+        Fault::FieldOutOfPlace,
     ];
 
-    /// 1 to 15.
+    /// 1 to 18.
     pub fn number(self) -> u8 {
         self as u8
     }
@@ -56,7 +63,9 @@ impl Fault {
             Fault::ChromaFormat => {
                 "chroma format is not 0 to 3, or a chroma filter was asked for a picture without chroma or a component that is not 0 or 1"
             }
-            Fault::Length => "slice count is not 1 to 256, or a plane or a table does not have the length that the sizes call for",
+            Fault::Length => {
+                "slice count is not 1 to 256, or a plane, a table or the room for a bank file does not have the length called for"
+            }
             Fault::VirtualBoundary => {
                 "virtual boundaries are more than three, out of range, not multiples of 8, not rising or less than a CTB apart"
             }
@@ -69,6 +78,11 @@ impl Fault {
             Fault::Address => "the list has an address that is not below the count of CTBs",
             Fault::Region => "an entry of the region is not 0 or 1",
             Fault::Position => "the position lies outside the picture",
+            Fault::FieldCutShort => "a field of the bank file is cut short",
+            Fault::FieldUnlisted => "a field of the bank file has a tag, a length or a leading number that is not listed",
+            Fault::FieldOutOfPlace => {
+                "a field of the bank file is out of place: the bit depth is not first, or a filter is out of order, repeated or all zero"
+            }
         }
     }
 

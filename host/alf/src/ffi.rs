@@ -57,6 +57,12 @@ declare! {
     alf_clip_causes(x: u32, y: u32, causes: *mut u8, causes_length: usize);
 }
 
+// The functions of bank files, which are given no picture.
+extern "C" {
+    fn alf_bank_write(bit_depth: u8, bank: *const i16, bank_length: usize, file: *mut u8, file_length: usize, length: *mut u32) -> u8;
+    fn alf_bank_read(file: *const u8, file_length: usize, bank: *mut i16, bank_length: usize, bit_depth: *mut u8) -> u8;
+}
+
 /// Calls a function with the picture and its tables, and what follows them.
 macro_rules! call {
     ($name:ident, $picture:expr, $($argument:expr),*) => {
@@ -173,4 +179,14 @@ pub fn isolated(picture: &Picture, region: &[u8], isolated: &mut u8) -> u8 {
 
 pub fn clip_causes(picture: &Picture, x: u32, y: u32, causes: &mut [u8]) -> u8 {
     call!(alf_clip_causes, picture, x, y, causes.as_mut_ptr(), causes.len())
+}
+
+pub fn bank_write(bit_depth: u8, bank: &[i16], file: &mut [u8], length: &mut u32) -> u8 {
+    // Safe: as in `call!`; `length` is a number that this call alone borrows.
+    unsafe { alf_bank_write(bit_depth, bank.as_ptr(), bank.len(), file.as_mut_ptr(), file.len(), length) }
+}
+
+pub fn bank_read(file: &[u8], bank: &mut [i16], bit_depth: &mut u8) -> u8 {
+    // Safe: as in `call!`; `bit_depth` is a number that this call alone borrows.
+    unsafe { alf_bank_read(file.as_ptr(), file.len(), bank.as_mut_ptr(), bank.len(), bit_depth) }
 }

@@ -2,11 +2,13 @@
 //!
 //! Each operation judges what it is given before it works. It asks nothing of its caller: wrong sizes, lengths or numbers are answered
 //! with a [`Fault`], and then every output is left as it was.
+mod bank_file;
 mod cause;
 mod chroma_format;
 mod fault;
 mod ffi;
 
+pub use bank_file::{bank_read, bank_read_number, bank_write, bank_write_number, BANK_FILE_BYTES, BANK_NUMBERS};
 pub use cause::{ClipCause, ClipCauses};
 pub use chroma_format::chroma_ratio;
 pub use fault::Fault;

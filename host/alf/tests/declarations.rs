@@ -1,10 +1,11 @@
 //! The C interface stands in three texts: the Rattle source, which is proved; the C header; the wrapper's declarations. No compiler
-//! compares them, so this does, argument by argument. It also holds the header's numbers, messages and causes to the wrapper's.
-use raspbegonia::{ClipCause, Fault};
+//! compares them, so this does, argument by argument. It also holds the header's numbers, messages, causes and sizes to the wrapper's.
+use raspbegonia::{ClipCause, Fault, BANK_FILE_BYTES, BANK_NUMBERS};
 use std::fs;
 use std::path::Path;
 
-const FUNCTIONS: [(&str, &str); 6] = [
+/// The functions that begin with a picture, and the source file of each.
+const WITH_PICTURE: [(&str, &str); 6] = [
     ("alf_classes", "classes"),
     ("alf_luma", "luma"),
     ("alf_chroma", "chroma"),
@@ -12,6 +13,9 @@ const FUNCTIONS: [(&str, &str); 6] = [
     ("alf_isolated", "isolated"),
     ("alf_clip_causes", "clip_causes"),
 ];
+
+/// Those that do not.
+const WITHOUT_PICTURE: [(&str, &str); 2] = [("alf_bank_write", "bank_write"), ("alf_bank_read", "bank_read")];
 
 /// An argument as C has it: its name and its type, as "u16", "*const u16" or "usize".
 type Argument = (String, String);
@@ -76,7 +80,7 @@ fn of_source(name: &str, file: &str) -> Vec<Argument> {
 #[test]
 fn the_header_has_the_arguments_of_the_source() {
     let header = text("../../include/alf.h");
-    for (name, file) in FUNCTIONS {
+    for (name, file) in WITH_PICTURE.into_iter().chain(WITHOUT_PICTURE) {
         let list = between(&header, &format!("uint8_t {name}("), ");");
         assert_eq!(c_arguments(list), of_source(name, file), "{name}");
     }
@@ -87,9 +91,13 @@ fn the_wrapper_declares_the_arguments_of_the_source() {
     let wrapper = text("src/ffi.rs");
     let common = arguments(between(&wrapper, "$(fn $name(", "$($argument: $kind),*"));
     let declared = between(&wrapper, "declare! {", "\n}");
-    for (name, file) in FUNCTIONS {
+    for (name, file) in WITH_PICTURE {
         let own = arguments(between(declared, &format!("{name}("), ");"));
         assert_eq!([common.clone(), own].concat(), of_source(name, file), "{name}");
+    }
+    for (name, file) in WITHOUT_PICTURE {
+        let list = between(&wrapper, &format!("fn {name}("), ") -> u8;");
+        assert_eq!(arguments(list), of_source(name, file), "{name}");
     }
 }
 
@@ -114,11 +122,11 @@ fn capitals(name: String) -> String {
 }
 
 /// Whether the header has a line `NAME = number`, with or without a comma and a comment behind it.
-fn has_entry(header: &str, name: String, number: u8) -> bool {
+fn has_entry(header: &str, name: &str, number: usize) -> bool {
     let entry = format!("{name} = {number}");
     header.lines().any(|line| {
         let rest = line.trim().strip_prefix(&entry);
-        rest.is_some_and(|rest| rest.is_empty() || rest.starts_with(','))
+        rest.is_some_and(|rest| rest.is_empty() || rest.starts_with([',', ' ']))
     })
 }
 
@@ -131,7 +139,7 @@ fn the_header_has_the_numbers_and_messages_of_the_wrapper() {
         assert_eq!(fault.number(), number);
         assert_eq!(messages[usize::from(number)], fault.meaning());
         let name = format!("ALF_{}", capitals(format!("{fault:?}")));
-        assert!(has_entry(&header, name, number), "{fault:?}");
+        assert!(has_entry(&header, &name, number.into()), "{fault:?}");
     }
 }
 
@@ -142,6 +150,13 @@ fn the_header_has_the_causes_of_the_wrapper() {
     for (cause, number) in ClipCause::ALL.iter().zip(0..) {
         assert_eq!(cause.number(), number);
         let name = format!("ALF_CLIP_{}", capitals(format!("{cause:?}")));
-        assert!(has_entry(&header, name, number), "{cause:?}");
+        assert!(has_entry(&header, &name, number.into()), "{cause:?}");
     }
+}
+
+#[test]
+fn the_header_has_the_sizes_of_the_wrapper() {
+    let header = text("../../include/alf.h");
+    assert!(has_entry(&header, "ALF_BANK_NUMBERS", BANK_NUMBERS));
+    assert!(has_entry(&header, "ALF_BANK_FILE_BYTES", BANK_FILE_BYTES));
 }
