@@ -6,7 +6,7 @@ use crate::random::Random;
 use crate::region;
 
 /// Coefficients: small ones, any, or the two ends.
-fn coefficient(random: &mut Random, style: u64) -> i16 {
+pub(crate) fn coefficient(random: &mut Random, style: u64) -> i16 {
     let (first, last) = match style {
         0 => (-12, 12),
         1 => (-128, 127),
@@ -17,7 +17,7 @@ fn coefficient(random: &mut Random, style: u64) -> i16 {
 }
 
 /// Clips: the powers that the standard's index stands for, any, or the two ends.
-fn clip(random: &mut Random, style: u64, bit_depth: u8) -> i16 {
+pub(crate) fn clip(random: &mut Random, style: u64, bit_depth: u8) -> i16 {
     let most = 1i64 << bit_depth;
     match style {
         0 => (most >> random.pick(&[0, 3, 5, 7])) as i16,

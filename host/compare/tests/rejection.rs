@@ -10,6 +10,9 @@ use compare::seeds;
 use raspbegonia::Fault;
 use std::fmt;
 
+/// Accepted, and the numbers that an operation on a picture can answer with; the higher ones are those of a bank file's fields.
+const ANSWERS: usize = 1 + Fault::Position as usize;
+
 /// What a test has really done: a seed whose picture has no place for its damage, or draws none, counts nowhere.
 #[derive(Default)]
 struct Done {
@@ -17,7 +20,7 @@ struct Done {
     damages: usize,
     calls: usize,
     /// Calls by the number that they were answered with; 0 where the operation is not given what was damaged.
-    answers: [usize; 1 + Fault::ALL.len()],
+    answers: [usize; ANSWERS],
 }
 
 impl fmt::Display for Done {

@@ -1,12 +1,14 @@
 //! A call fits the stack that the header asks for, and the README and the header name the same number. Each function runs on a thread
 //! whose stack has just this size, is painted beforehand and ends at an inaccessible page; what is no longer painted afterwards was
 //! used.
+use compare::bank_files::{agreed_write, bank, file, library_write, Reader};
 use compare::guarded::Side;
 use compare::input::{Input, Operation};
 use compare::layout::CHROMA_FORMATS;
 use compare::picture::picture;
 use compare::random::Random;
 use compare::run::{agreed, library, Outcome};
+use raspbegonia::{BANK_FILE_BYTES, BANK_NUMBERS};
 use std::ffi::c_void;
 use std::ptr;
 
@@ -95,15 +97,19 @@ fn pictures() -> Vec<Input> {
     pictures
 }
 
+/// The bytes that the header names.
+fn named() -> usize {
+    1024 * kilobytes(include_str!("../../../include/alf.h"), "a stack with ")
+}
+
+#[test]
+fn the_readme_and_the_header_name_one_stack() {
+    assert_eq!(1024 * kilobytes(include_str!("../../../README.md"), "a stack with "), named());
+}
+
 #[test]
 fn every_call_fits_the_stack_that_the_header_names() {
-    let named = kilobytes(include_str!("../../../include/alf.h"), "a stack with ");
-    assert_eq!(
-        kilobytes(include_str!("../../../README.md"), "a stack with "),
-        named,
-        "the README names another stack"
-    );
-    let size = 1024 * named;
+    let size = named();
     let pictures = pictures();
     for operation in Operation::ALL {
         let mut most = 0;
@@ -119,4 +125,31 @@ fn every_call_fits_the_stack_that_the_header_names() {
         eprintln!("  stack, {operation:?}: at most {most} bytes of the {size} that the header names");
         assert!(most <= size, "{operation:?}");
     }
+}
+
+/// Few filters and all, and a file that ends too early.
+#[test]
+fn bank_files_fit_the_stack_that_the_header_names() {
+    let (size, mut random) = (named(), Random::new(10_000_100));
+    let (mut writing, mut reading) = (0, 0);
+    for share in [1, 50, 4000] {
+        let numbers = bank(&mut random, 12, share);
+        let expected = agreed_write(&mut random, 12, &numbers, BANK_FILE_BYTES);
+        let mut found = None;
+        let room = vec![0; BANK_FILE_BYTES];
+        writing = writing.max(stack_used(size, &mut || {
+            found = Some(library_write(12, &numbers, &room, 0, Side::After, false).length)
+        }));
+        assert_eq!(found, Some(expected.length), "the writer on a stack of its own");
+
+        let mut reader = Reader::new(&mut random, BANK_NUMBERS);
+        let file = file(12, &numbers);
+        for part in [&file[..], &file[..file.len() - 1]] {
+            let (expected, mut found) = (reader.agreed(part), None);
+            reading = reading.max(stack_used(size, &mut || found = Some(reader.library(part, expected.number != 0))));
+            assert_eq!(found, Some(expected), "the reader on a stack of its own");
+        }
+    }
+    eprintln!("  stack, bank files: at most {writing} bytes to write and {reading} to read of the {size} that the header names");
+    assert!(writing.max(reading) <= size);
 }
