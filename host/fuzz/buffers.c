@@ -19,8 +19,10 @@ static size_t entry_width(int name)
     case CHROMA:
     case LUMA_OUTPUT:
     case CHROMA_OUTPUT:
+    case READ_BANK:
         return 2;
     case CTB_LIST:
+    case FILE_LENGTH:
         return 4;
     default:
         return 1;

@@ -28,6 +28,12 @@ enum buffer_name {
     CHROMA_OUTPUT,
     ISOLATED,
     CAUSES,
+    /* those before are the arguments of an operation on a picture, those from here on of bank files, the bank with them */
+    PICTURE_BUFFERS,
+    BANK_FILE = PICTURE_BUFFERS,
+    FILE_LENGTH,
+    READ_BANK,
+    READ_DEPTH,
     BUFFERS
 };
 

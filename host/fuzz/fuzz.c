@@ -1,27 +1,34 @@
 /* Arbitrary arguments for the C interface: never a crash, never a write on rejection, never a number that no fault has.
  *
  * The bytes that a fuzzer gives become a call: a picture that is accepted, made from a few of them, then changes at places and to numbers
- * and lengths that the others choose. So both the ways to reject and the filters behind them are reached. */
+ * and lengths that the others choose. So both the ways to reject and the filters behind them are reached. Banks and bank files are made in
+ * the same way. */
 #include "../../include/alf.h"
+#include "bank_files.h"
 #include "buffers.h"
+#include "bytes.h"
 
 #include <stdio.h>
 #include <stdlib.h>
 #include <string.h>
 
-enum operation { CLASSES, LUMA_FILTER, CHROMA_FILTER, CROSS_COMPONENT, ISOLATED_TEST, CLIP_CAUSES, OPERATIONS };
+enum operation { CLASSES, LUMA_FILTER, CHROMA_FILTER, CROSS_COMPONENT, ISOLATED_TEST, CLIP_CAUSES, BANK_WRITE, BANK_READ, OPERATIONS };
 
-static const char *const names[OPERATIONS] = {"classes", "luma", "chroma", "cross-component", "isolated", "clip causes"};
+static const char *const names[OPERATIONS] = {
+    "classes", "luma", "chroma", "cross-component", "isolated", "clip causes", "bank write", "bank read",
+};
 
 /* How many answers there are: accepted, and the faults. */
-#define ANSWERS (ALF_POSITION + 1)
+#define ANSWERS (ALF_FIELD_OUT_OF_PLACE + 1)
 
 /* How many chroma formats there are: luma alone, 4:2:0, 4:2:2 and 4:4:4. */
 #define FORMATS 4
 
-/* How many calls of each operation had each answer; and for libFuzzer, which looks here for what is new, by chroma format. */
+/* How many calls of each operation had each answer; and for libFuzzer, which looks here for what is new, by chroma format, or by how the
+ * bank or the file was made. */
+#define KINDS (FORMATS > BANK_FILE_STYLES ? FORMATS : BANK_FILE_STYLES)
 static unsigned long answers[OPERATIONS][ANSWERS];
-__attribute__((section("__libfuzzer_extra_counters"))) static uint8_t reached[OPERATIONS * ANSWERS * FORMATS];
+__attribute__((section("__libfuzzer_extra_counters"))) static uint8_t reached[OPERATIONS * ANSWERS * KINDS];
 
 static struct buffer buffers[BUFFERS];
 
@@ -34,33 +41,6 @@ struct scalars {
     uint8_t component;
     uint32_t x, y;
 };
-
-/* The bytes given, one by one; zeros when they are used up. */
-struct bytes {
-    const uint8_t *next, *end;
-};
-
-static uint32_t take(struct bytes *from)
-{
-    return from->next < from->end ? *from->next++ : 0;
-}
-
-static uint32_t take4(struct bytes *from)
-{
-    uint32_t n = take(from);
-    n |= take(from) << 8;
-    n |= take(from) << 16;
-    return n | take(from) << 24;
-}
-
-/* Numbers for the large tables, repeated by their seed. */
-static uint32_t random_below(uint32_t *state, uint32_t n)
-{
-    *state ^= *state << 13;
-    *state ^= *state >> 17;
-    *state ^= *state << 5;
-    return *state % n;
-}
 
 static void print_answers(void)
 {
@@ -86,12 +66,9 @@ static void fill(int name, size_t length, uint32_t *state, uint32_t n)
 /* Every entry from -128 to 127, or for a clip 0 to 2^bit_depth. */
 static void fill_bank(uint32_t *state, uint8_t bit_depth)
 {
-    set_length(&buffers[BANK], 8 * 752);
-    for (size_t k = 0; k < buffers[BANK].length; k++) {
-        size_t at = k % 752;
-        bool clip = at < 600 ? at % 24 >= 12 : at < 696 && (at - 600) % 12 >= 6;
-        put(&buffers[BANK], k, clip ? random_below(state, (1u << bit_depth) + 1) : random_below(state, 256) - 128);
-    }
+    set_length(&buffers[BANK], ALF_BANK_NUMBERS);
+    for (size_t k = 0; k < buffers[BANK].length; k++)
+        put(&buffers[BANK], k, is_clip(k) ? random_below(state, (1u << bit_depth) + 1) : random_below(state, 256) - 128);
     set_length(&buffers[FIXED_FILTERS], 768);
     for (size_t k = 0; k < 768; k++)
         put(&buffers[FIXED_FILTERS], k, random_below(state, 256) - 128);
@@ -165,7 +142,7 @@ static struct scalars make_picture(struct bytes *from)
 static void change(struct scalars *s, struct bytes *from)
 {
     enum { NUMBERS = 11 };
-    uint32_t what = take(from) % (NUMBERS + 2 * BUFFERS);
+    uint32_t what = take(from) % (NUMBERS + 2 * PICTURE_BUFFERS);
     switch (what) {
     case 0: s->width = take4(from); return;
     case 1: s->height = take4(from); return;
@@ -211,8 +188,12 @@ static uint8_t call(enum operation op, const struct scalars *s)
         return alf_cross_component(PICTURE, s->component, PARAMETERS, SLICE(LUMA), SLICE(CHROMA), SLICE(CHROMA_OUTPUT));
     case ISOLATED_TEST:
         return alf_isolated(PICTURE, SLICE(REGION), first_of(&buffers[ISOLATED]));
-    default:
+    case CLIP_CAUSES:
         return alf_clip_causes(PICTURE, s->x, s->y, SLICE(CAUSES));
+    case BANK_WRITE:
+        return alf_bank_write(s->bit_depth, SLICE(BANK), SLICE(BANK_FILE), first_of(&buffers[FILE_LENGTH]));
+    default:
+        return alf_bank_read(SLICE(BANK_FILE), SLICE(READ_BANK), first_of(&buffers[READ_DEPTH]));
     }
 }
 
@@ -222,11 +203,16 @@ static void fail(const char *what, enum operation op, unsigned number)
     abort();
 }
 
-/* The buffer that an operation writes where it accepts. */
+/* The buffer that an operation writes where it accepts; and the number beside it, where there is one. */
 static int output_of(enum operation op)
 {
-    static const int outputs[OPERATIONS] = {CLASS_MAP, LUMA_OUTPUT, CHROMA_OUTPUT, CHROMA_OUTPUT, ISOLATED, CAUSES};
+    static const int outputs[OPERATIONS] = {CLASS_MAP, LUMA_OUTPUT, CHROMA_OUTPUT, CHROMA_OUTPUT, ISOLATED, CAUSES, BANK_FILE, READ_BANK};
     return outputs[op];
+}
+
+static bool is_output(enum operation op, int name)
+{
+    return name == output_of(op) || (op == BANK_WRITE && name == FILE_LENGTH) || (op == BANK_READ && name == READ_DEPTH);
 }
 
 /* Whether an operation can give n for entry k of its output. */
@@ -257,28 +243,58 @@ static void check_entries(enum operation op, const struct scalars *s)
     }
 }
 
+/* What holds of an accepted call whatever the input was. */
+static void check_accepted(enum operation op, const struct scalars *s)
+{
+    const char *wrong = NULL;
+    if (op == BANK_WRITE)
+        wrong = wrong_after_write(buffers, s->bit_depth);
+    else if (op == BANK_READ)
+        wrong = wrong_after_read(buffers);
+    else
+        check_entries(op, s);
+    if (wrong != NULL)
+        fail(wrong, op, 0);
+}
+
+/* What the bytes make of the operation's arguments. Sets which kind of input it is. */
+static struct scalars make_call(enum operation op, struct bytes *from, unsigned *kind)
+{
+    struct scalars s = {0};
+    if (op == BANK_WRITE) {
+        *kind = make_bank(buffers, from, &s.bit_depth);
+    } else if (op == BANK_READ) {
+        *kind = make_file(buffers, from);
+    } else {
+        s = make_picture(from);
+        while (from->next < from->end)
+            change(&s, from);
+        *kind = s.chroma_format % FORMATS;
+    }
+    return s;
+}
+
 int LLVMFuzzerTestOneInput(const uint8_t *data, size_t size)
 {
     struct bytes from = {data, data + size};
+    unsigned kind;
     if (buffers[0].end == NULL) {
         make_buffers(buffers);
         atexit(print_answers);
     }
     enum operation op = take(&from) % OPERATIONS;
-    struct scalars s = make_picture(&from);
-    while (from.next < from.end)
-        change(&s, &from);
+    struct scalars s = make_call(op, &from, &kind);
     for (int name = 0; name < BUFFERS; name++)
         remember(&buffers[name]);
     uint8_t number = call(op, &s);
     if (number >= ANSWERS)
         fail("a number that no fault has", op, number);
     for (int name = 0; name < BUFFERS; name++)
-        if ((number != 0 || name != output_of(op)) && !unchanged(&buffers[name]))
+        if ((number != 0 || !is_output(op, name)) && !unchanged(&buffers[name]))
             fail(number ? "something was written on rejection" : "an input was written", op, number);
     if (number == 0)
-        check_entries(op, &s);
+        check_accepted(op, &s);
     answers[op][number]++;
-    reached[(op * ANSWERS + number) * FORMATS + s.chroma_format % FORMATS] = 1;
+    reached[(op * ANSWERS + number) * KINDS + kind] = 1;
     return 0;
 }
