@@ -1,5 +1,5 @@
 #!/usr/bin/env bash
-# What a user of the C interface touches: the header, the example, and that the README shows the example as it is.
+# What a user of the C interface touches: the header, the examples, and that the README shows the first of them as it is.
 # The last line is 'N passed, M failed'.
 set -u -o pipefail
 cd "$(dirname "$0")/.." || exit 2
@@ -27,8 +27,8 @@ header_alone() {
 }
 
 example() {
-    gcc -std=c11 $strict examples/luma.c target/staticlib/libalf_c.a -o "$work/luma" && "$work/luma" > "$work/stdout" &&
-        diff examples/luma.stdout "$work/stdout"
+    gcc -std=c11 $strict "examples/$1.c" target/staticlib/libalf_c.a -o "$work/$1" && "$work/$1" > "$work/stdout" &&
+        diff "examples/$1.stdout" "$work/stdout"
 }
 
 # the first block of C in the README, and what the README says it prints
@@ -37,15 +37,16 @@ readme() {
         sed 's/^/    /' examples/luma.stdout | while IFS= read -r line; do grep -qxF -- "$line" README.md || { echo "not in README: $line"; exit 1; }; done
 }
 
-# nothing but the six functions is exported, and nothing but the C library's memory functions is asked for
+# nothing but the eight functions is exported, and nothing but the C library's memory functions is asked for
 symbols() {
-    local expected="alf_chroma alf_classes alf_clip_causes alf_cross_component alf_isolated alf_luma"
+    local expected="alf_bank_read alf_bank_write alf_chroma alf_classes alf_clip_causes alf_cross_component alf_isolated alf_luma"
     [[ "$(nm --defined-only -g target/staticlib/libalf_c.a | awk 'NF == 3 { print $3 }' | sort | tr '\n' ' ')" == "$expected " ]] &&
         ! nm -u target/staticlib/libalf_c.a | awk 'NF == 2 { print $2 }' | grep -vxE 'mem(cpy|set|move|cmp)'
 }
 
 test_of "the header by itself, in C99 and C++11" header_alone
-test_of "the example compiles, runs and prints what it should" example
+test_of "the example of the luma filter compiles, runs and prints what it should" example luma
+test_of "the example of a bank file likewise" example bank
 test_of "the README shows the example and what it prints" readme
 test_of "the library's names" symbols
 echo "$passed passed, $failed failed"
