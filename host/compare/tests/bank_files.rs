@@ -32,7 +32,7 @@ impl fmt::Display for Answers {
     }
 }
 
-/// The wrapper's forms without numbers give the same.
+/// The wrapper's forms without a number to be written give the same.
 fn by_the_wrapper(bit_depth: u8, numbers: &[i16], file: &[u8]) {
     let mut room = vec![0; BANK_FILE_BYTES];
     assert_eq!(bank_write(bit_depth, numbers, &mut room), Ok(file.len()));
@@ -113,7 +113,10 @@ fn wrong_banks_depths_and_room() {
             bit_depth
         };
         let room = some_room(&mut random);
-        answers.count(agreed_write(&mut random, said, &numbers, room).number);
+        let written = agreed_write(&mut random, said, &numbers, room);
+        let wrapped = bank_write(said, &numbers, &mut vec![0; room]).map_err(|fault| fault.number());
+        assert_eq!(wrapped.err().unwrap_or(0), written.number);
+        answers.count(written.number);
     });
     eprintln!("  wrong banks: {answers}");
     assert!(
@@ -174,8 +177,9 @@ fn damaged_files(seed: u64, done: &mut Damaged) {
             let read = reader.agreed(&spoilt);
             done.files += 1;
             done.answers.count(read.number);
-            if read.number == 0 {
-                by_the_wrapper(read.bit_depth, &read.bank, &spoilt);
+            match read.number {
+                0 => by_the_wrapper(read.bit_depth, &read.bank, &spoilt),
+                number => assert_eq!(bank_read(&spoilt, &mut vec![0; bank_length]).unwrap_err().number(), number),
             }
         }
     }

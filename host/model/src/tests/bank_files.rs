@@ -368,3 +368,18 @@ fn an_accepted_file_is_what_is_written_of_it() {
     }
     assert!(accepted > 500 && rejected > 500, "{accepted} accepted, {rejected} rejected");
 }
+
+/// Any bytes, most of them as small as tags and lengths are, behind a good depth or not: never a panic, and only these numbers.
+#[test]
+fn nothing_but_garbage() {
+    let mut random = Random::new(5);
+    let mut answers = [0; 19];
+    for _ in 0..20_000 {
+        let bound = [3, 5, 40, 256][random.below(4) as usize];
+        let front = if random.yes() { depth(8) } else { Vec::new() };
+        let garbage: Vec<u8> = (0..random.below(60)).map(|_| random.below(bound) as u8).collect();
+        answers[usize::from(number(&[front, garbage]))] += 1;
+    }
+    let met: Vec<usize> = (0..19).filter(|&number| answers[number] > 0).collect();
+    assert!(met.iter().all(|number| [0, 3, 11, 16, 17, 18].contains(number)), "{met:?}");
+}
