@@ -1,2 +1,3 @@
--- Claims about the operations.
+-- Numbers of answers, and claims about the operations.
+pub mod AnswerNumbers
 pub mod IsolatedOutputs

@@ -1,7 +1,9 @@
-// The operations on a picture, each from its own crate. None asks anything of its caller: each judges what it is given, then works.
+// The operations on a picture and on bank files, each from its own crate. None asks anything of its caller: each judges what it is given, then works.
 mod answer_numbers;
 
 pub use alf_boundary::causes::cause_number;
+pub use alf_op_bank_read::read_bank;
+pub use alf_op_bank_write::write_bank;
 pub use alf_op_causes::clip_causes;
 pub use alf_op_chroma::chroma;
 pub use alf_op_classes::classes;

@@ -1,3 +1,4 @@
 -- Claims about the C interface.
+pub mod WrittenBanks
 pub mod WrittenCauses
 pub mod WrittenIsolation

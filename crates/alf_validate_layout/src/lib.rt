@@ -5,6 +5,6 @@ pub mod entries;
 pub mod layout;
 mod lengths;
 mod maps;
-mod picture;
+pub mod picture;
 mod tiles;
 mod virtual_boundaries;

@@ -1,6 +1,6 @@
 // Causes 1 to 4: the picture's own numbers.
 ghost use mathlib.Core.Path.{_≡_};
-ghost use Rattle.alf_spec.specs.Faults.{sizeValid, pictureSizeValid, ctbSizeValid, bitDepthValid, chromaFormatValid};
+ghost use Rattle.alf_spec.specs.Faults.{sizeValid, pictureSizeValid, ctbSizeValid, depthValid, bitDepthValid, chromaFormatValid};
 use alf_spec::Picture;
 
 // Whether a width or a height is a multiple of 8 from 8 to 4,096.
@@ -24,11 +24,18 @@ pub fn ctb_size_valid(picture: Picture) -> bool
     (5 <= picture.ctb_log2) & (picture.ctb_log2 <= 7)
 }
 
+// Whether a bit depth is 8 to 12.
+pub fn depth_valid(bit_depth: u8) -> bool
+    ensures { λ r. ⌜ r ≡ depthValid «bit_depth» ⌝ }
+{
+    (8 <= bit_depth) & (bit_depth <= 12)
+}
+
 // Cause 3: the bit depth.
 pub fn bit_depth_valid(picture: Picture) -> bool
     ensures { λ r. ⌜ r ≡ bitDepthValid picture ⌝ }
 {
-    (8 <= picture.bit_depth) & (picture.bit_depth <= 12)
+    depth_valid(picture.bit_depth)
 }
 
 // Cause 4: the chroma format. Whether the operation may have chroma, and its component, are judged beside it.

@@ -1,0 +1,27 @@
+-- `alf_op_bank_read::fill::signed_byte` meets its contract: from 128 on, the byte less 256. Assumes nothing.
+use borrow.Author.Needs.{needs}
+use mathlib.Core.Path.{_∙_}
+use native.Mathlib.Omega.{arith}
+use mir.Syntax.{w16}
+use mir.Facts.{toZ-ofZ}
+use lib.IntN.{pos}
+use Rattle.alf_op_bank_read.proofs.Fills.{byte-low, byte-high}
+use Rattle.alf_math.proofs.Magnitude.{back, abs-sub, fits-abs}
+use Rattle.alf_op_bank_read.proofs.fill.signed_byte.Statement.{statement}
+use Rattle.alf_op_bank_read.proofs.fill.signed_byte.Tie as tie
+
+difference : tie.Need-sub-result
+difference c = rw (back w16 (c .before .args .b) (omega arith)) (fits-abs (omega (arith, abs-sub (pos (c .before .args .b)) (pos 256))))
+
+returns-2 : tie.Need-returns-2
+returns-2 c = toZ-ofZ (difference c) ∙ rw (back w16 (c .before .args .b) (omega arith)) (byte-high (c .before .args .b) (c .if1 .left) (omega arith))
+
+pub signed-byte-spec : {M : Type 1} → statement M
+signed-byte-spec =
+    tie.close
+    (tie.spec
+    (λ c. search needs)
+    (λ c. back w16 (c .before .args .b) (omega arith) ∙ byte-low (c .before .args .b) (c .if1 .taken))
+    (λ c. search needs)
+    difference
+    returns-2)

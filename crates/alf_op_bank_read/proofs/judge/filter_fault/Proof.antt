@@ -1,0 +1,28 @@
+-- `alf_op_bank_read::judge::filter_fault` meets its contract: at each return the tests that led there say which fault is the lowest. Assumes nothing.
+use borrow.Author.Needs.{needs}
+use Rattle.alf_bank.proofs.FieldFaults.{has-depth, good}
+use Rattle.alf_op_bank_read.proofs.FieldFaults.{cut-short, unlisted, wrong-depth, second-depth, wrong-clip, wrong-leads, misplaced}
+use Rattle.alf_op_bank_read.proofs.FieldTests.{is-true, was-true, was-false, answers, has-head, filter-reaches, leads-reach}
+use Rattle.alf_op_bank_read.proofs.judge.filter_fault.Statement.{statement}
+use Rattle.alf_op_bank_read.proofs.judge.filter_fault.Tie as tie
+
+pub filter-fault-spec : {M : Type 1} → statement M
+filter-fault-spec =
+    tie.close
+    (tie.spec
+    (λ c κs. search needs)
+    (λ c. search (cut-short, answers))
+    (λ c κs. search (has-head, answers))
+    (λ c. search (unlisted, answers))
+    (λ c κs. search (has-head, answers))
+    (λ c κs. has-depth _ (is-true (c .before .before .before .before .before .is-whole .ensures) (c .before .before .before .before .if1 .left)) (is-true (c .before .before .before .is-listed .ensures) (c .before .before .if2 .left)) (was-true (c .before .is-depth .ensures) (c .if3 .taken)))
+    (λ c. search (second-depth, answers))
+    (λ c. search (wrong-depth, answers))
+    (λ c κs. filter-reaches _ (is-true (c .before .before .before .before .before .is-whole .ensures) (c .before .before .before .before .if1 .left)) (is-true (c .before .before .before .is-listed .ensures) (c .before .before .if2 .left)) (was-false (c .before .is-depth .ensures) (c .if3 .left)))
+    (λ c. search (wrong-clip, answers))
+    (λ c κs. leads-reach _ (is-true (c .before .before .before .before .before .before .before .is-whole .ensures) (c .before .before .before .before .before .before .if1 .left)) (is-true (c .before .before .before .before .before .is-listed .ensures) (c .before .before .before .before .if2 .left)) (was-false (c .before .before .before .is-depth .ensures) (c .before .before .if3 .left)))
+    (λ c κs. search needs)
+    (λ c. search (wrong-leads, answers))
+    (λ c κs. (filter-reaches _ (is-true (c .before .before .before .before .before .before .before .before .before .before .is-whole .ensures) (c .before .before .before .before .before .before .before .before .before .if1 .left)) (is-true (c .before .before .before .before .before .before .before .before .is-listed .ensures) (c .before .before .before .before .before .before .before .if2 .left)) (was-false (c .before .before .before .before .before .before .is-depth .ensures) (c .before .before .before .before .before .if3 .left)), (was-false (c .before .before .before .before .before .before .is-depth .ensures) (c .before .before .before .before .before .if3 .left))))
+    (λ c. search (misplaced, answers))
+    (λ c. search (good, answers)))

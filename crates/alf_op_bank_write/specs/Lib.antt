@@ -1,0 +1,2 @@
+-- What the writer's functions ask of a filter.
+pub mod FieldBytes
