@@ -1,6 +1,7 @@
-// Runs paper 01's examples of judging and of the isolation test, an input for each number of its table and for what shares a number, and
-// the causes at the sides of a few samples.
+// Runs paper 01's examples of judging and of the isolation test, an input for each number of its table and for what shares a number, the
+// causes at the sides of a few samples, and files of banks.
 
+mod banks;
 mod causes;
 mod damaged;
 mod rows;
@@ -94,4 +95,6 @@ fn main() {
     rows::show_rows();
     print(b"the causes at a sample's top, bottom, left and right\n");
     causes::show_causes();
+    print(b"a bank as a file, and what the reader says of files\n");
+    banks::show_banks();
 }
