@@ -24,7 +24,7 @@ use Rattle.alf_bank.proofs.Fields.{fields-none, fields-step}
 use Rattle.alf_op_bank_read.specs.declared.Step.{Step}
 use Rattle.alf_op_bank_read.specs.declared.Step.the-variants.{End, Faulty, Filter}
 use Rattle.alf_op_bank_read.specs.Fields.{Seen}
-use Rattle.alf_op_bank_read.proofs.FieldTests.{has-head, leads-reach}
+use Rattle.alf_op_bank_read.proofs.FieldTests.{has-head, filter-reaches, has-leads}
 
 -- ---- what stands at a position
 
@@ -103,7 +103,7 @@ module _ (file : List ℕ) (at limit from : ℕ) {f : List ℕ} (is : f ≡ drop
     good-head = has-head f (good-field .complete)
 
     pub good-leads : 6 ≤ length f
-    good-leads = leads-reach f (good-field .complete) (good-field .known) (good-field .filter)
+    good-leads = has-leads f (filter-reaches f (good-field .complete) (good-field .known) (good-field .filter))
 
     pub step-good : {i : FilterId} {k len : ℕ} → i ≡ idOf f → k ≡ orderOf i → len ≡ lengthOf f
         → Seen (Filter (at + (3 + len)) (k + 1)) file at limit from

@@ -1,4 +1,4 @@
-// Storing the filters of a bank file that is accepted.
+// Storing the filters of a bank file that is accepted in a bank of zeros.
 ghost use mathlib.Core.Path.{_≡_};
 ghost use Prim.Native.Nat.{_+_, _≤_, _<_};
 ghost use lib.IntN.{pos};
@@ -8,8 +8,8 @@ ghost use Rattle.alf_bank.specs.Filters.{shapeOf, countOf, startOf};
 ghost use Rattle.alf_bank.specs.Reading.{tagOf, idOf, signedByte, coeffAt, clipAt, fieldNumbers, fields, filtersFault, filled};
 ghost use Rattle.alf_op_bank_read.specs.Fields.{Reaches, Storable};
 use crate::Step;
+use crate::fields::clip_word;
 use crate::fields::id_of;
-use crate::fields::word;
 use crate::judge::bytes_from;
 use crate::reader::step_in;
 use alf_bank::filters::shape_of;
@@ -35,16 +35,7 @@ fn coeff_number(field: &[u8], j: usize) -> i16
     signed_byte(field[3 + k])
 }
 
-// Clip j.
-fn clip_word(field: &[u8], j: usize) -> usize
-    requires { ⌜ Reaches (now field) × (j < shapeOf (tagOf (now field)) .clips) ⌝ }
-    ensures { λ r. ⌜ r ≡ clipAt (now (field .entry)) j ⌝ }
-{
-    let shape = shape_of(field[0]);
-    let k = shape.leads + shape.coeffs + 2 * j;
-    word(field[3 + k], field[3 + (k + 1)])
-}
-
+// A clip as a bank in memory has it.
 fn as_number(n: usize) -> i16
     requires { ⌜ n < 32768 ⌝ }
     ensures { λ r. ⌜ r ≡ pos n ⌝ }
@@ -52,6 +43,7 @@ fn as_number(n: usize) -> i16
     n as i16
 }
 
+// Clip j of a filter's field, as a bank in memory has it.
 fn clip_number(field: &[u8], j: usize) -> i16
     requires { ⌜ Storable (now field) × (j < shapeOf (tagOf (now field)) .clips) ⌝ }
     ensures { λ r. ⌜ r ≡ pos (clipAt (now (field .entry)) j) ⌝ }
@@ -59,7 +51,7 @@ fn clip_number(field: &[u8], j: usize) -> i16
     as_number(clip_word(field, j))
 }
 
-// Number j: first the coefficients, then the clips.
+// Number j of a filter's field: the coefficients come first, then the clips.
 fn number_at(field: &[u8], j: usize) -> i16
     requires { ⌜ Storable (now field) × (j < countOf (shapeOf (tagOf (now field)))) ⌝ }
     ensures { λ r. ⌜ r ≡ getD (fieldNumbers (now (field .entry))) j (pos 0) ⌝ }
@@ -72,7 +64,7 @@ fn number_at(field: &[u8], j: usize) -> i16
     clip_number(field, j - coeffs)
 }
 
-// Stores the numbers of a filter's field.
+// Stores the numbers of a filter's field in a bank, from place `start` on.
 fn fill_field(field: &[u8], bank: &mut [i16], start: usize)
     requires { ⌜ Storable (now field) × (start + countOf (shapeOf (tagOf (now field))) ≤ length (now bank)) ⌝ }
     ensures { λ _. ⌜ now (bank .exit) ≡ overwrite start (fieldNumbers (now (field .entry))) (now (bank .entry)) ⌝ }
@@ -86,20 +78,22 @@ fn fill_field(field: &[u8], bank: &mut [i16], start: usize)
     }
 }
 
-// Stores the filter whose field stands at a position.
+// Stores the filter whose field stands at a position of a file.
 fn store_at(file: &[u8], at: usize, bank: &mut [i16])
     requires { ⌜ (at ≤ length (now file)) × Storable (drop at (now file))
         × (startOf (idOf (drop at (now file))) + countOf (shapeOf (tagOf (drop at (now file)))) ≤ length (now bank)) ⌝ }
-    ensures { λ _. ⌜ now (bank .exit) ≡ overwrite (startOf (idOf (drop at (now (file .entry))))) (fieldNumbers (drop at (now (file .entry)))) (now (bank .entry)) ⌝ }
+    ensures { λ _. ⌜ now (bank .exit) ≡ overwrite (startOf (idOf (drop at (now (file .entry)))))
+        (fieldNumbers (drop at (now (file .entry)))) (now (bank .entry)) ⌝ }
 {
     let field = bytes_from(file, at);
     let start = start_of(id_of(field));
     fill_field(field, bank, start);
 }
 
-// Stores the filters of the fields after tag 1 of an accepted file.
+// Stores the filters of all fields after tag 1 of an accepted file.
 pub fn fill_bank(file: &[u8], limit: usize, bank: &mut [i16])
-    requires { ⌜ (4 ≤ length (now file)) × (limit ≤ 4096) × (length (now bank) ≡ 6016) × (filtersFault limit 0 (fields (drop 4 (now file)) 0) ≡ 0) ⌝ }
+    requires { ⌜ (4 ≤ length (now file)) × (limit ≤ 4096) × (length (now bank) ≡ 6016)
+        × (filtersFault limit 0 (fields (drop 4 (now file)) 0) ≡ 0) ⌝ }
     ensures { λ _. ⌜ now (bank .exit) ≡ filled (now (bank .entry)) (fields (drop 4 (now (file .entry))) 0) ⌝ }
 {
     let mut at = 4;

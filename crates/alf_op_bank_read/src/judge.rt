@@ -20,7 +20,7 @@ use alf_spec::Answer;
 use alf_spec::Fault;
 use alf_validate_layout::picture::depth_valid;
 
-// Whether the tag is 1.
+// Whether the tag of a field is 1, which is that of the bit depth.
 pub fn is_depth(field: &[u8]) -> bool
     requires { ⌜ 3 ≤ length (now field) ⌝ }
     ensures { λ r. ⌜ r ≡ isDepth (now (field .entry)) ⌝ }
@@ -28,7 +28,7 @@ pub fn is_depth(field: &[u8]) -> bool
     field[0] == 1
 }
 
-// Whether the depth of a field of tag 1 is.
+// Whether the depth in a field of tag 1 is 8 to 12.
 fn has_valid_depth(field: &[u8]) -> bool
     requires { ⌜ 4 ≤ length (now field) ⌝ }
     ensures { λ r. ⌜ r ≡ depthValid (getD (now (field .entry)) 3 0) ⌝ }
@@ -36,7 +36,7 @@ fn has_valid_depth(field: &[u8]) -> bool
     depth_valid(field[3])
 }
 
-// The number of the lowest fault of a first field that is not empty, or 0.
+// The lowest fault of a first field that is not empty. No clip is judged before the bit depth is known.
 pub fn first_fault(field: &[u8]) -> Answer
     ensures { λ r. ⌜ number r ≡ fieldFault true 0 0 (now (field .entry)) ⌝ }
 {
@@ -58,7 +58,7 @@ pub fn first_fault(field: &[u8]) -> Answer
     Answer::Rejected(Fault::FieldUnlisted)
 }
 
-// Whether a filter's field is in place.
+// Whether a filter's field is in place: from place `from` of file order on, and not all zero.
 fn in_place(field: &[u8], from: usize) -> bool
     requires { ⌜ Reaches (now field) × (isDepth (now field) ≡ false) ⌝ }
     ensures { λ r. ⌜ r ≡ inPlace false from (now (field .entry)) ⌝ }
@@ -66,7 +66,7 @@ fn in_place(field: &[u8], from: usize) -> bool
     (from <= order_of(id_of(field))) & !zero_field(field)
 }
 
-// The number of the lowest fault of a later field, or 0. The limit is that of the clips.
+// The lowest fault of a field after the first. Clips go up to the limit; filters come from place `from` of file order on.
 pub fn filter_fault(field: &[u8], limit: usize, from: usize) -> Answer
     ensures { λ r. ⌜ number r ≡ fieldFault false limit from (now (field .entry)) ⌝ }
 {
@@ -94,7 +94,7 @@ pub fn filter_fault(field: &[u8], limit: usize, from: usize) -> Answer
     Answer::Accepted
 }
 
-// The largest clip, 2^B.
+// The largest clip that a bit depth allows.
 pub fn clip_limit(depth: u8) -> usize
     requires { ⌜ depth ≤ 12 ⌝ }
     ensures { λ r. ⌜ r ≡ 2 ^ depth ⌝ }
@@ -102,7 +102,7 @@ pub fn clip_limit(depth: u8) -> usize
     1usize << depth
 }
 
-// The bytes from a position on.
+// The bytes of a file from a position on.
 pub fn bytes_from(file: &[u8], at: usize) -> &[u8]
     requires { ⌜ at ≤ length (now file) ⌝ }
     ensures { λ r. ⌜ now r ≡ drop at (now (file .entry)) ⌝ }
@@ -110,7 +110,7 @@ pub fn bytes_from(file: &[u8], at: usize) -> &[u8]
     &file[at..]
 }
 
-// What stands at a position of a file after tag 1.
+// What stands at a position of a file after tag 1. Clips go up to the limit; filters come from place `from` of file order on.
 pub fn step_at(file: &[u8], at: usize, limit: usize, from: usize) -> Step
     ensures { λ r. ⌜ Seen r (now (file .entry)) at limit from ⌝ }
 {

@@ -21,14 +21,15 @@ use reader::step_in;
 
 // What stands at a position of a file after tag 1.
 pub enum Step {
+    // Nothing: the file ends.
     End,
-    // With the field's lowest fault.
+    // A field with its lowest fault.
     Faulty(Fault),
     // A filter's field: the position after it, and the first place in file order that may come next.
     Filter { at: usize, from: usize },
 }
 
-// The first fault of the fields after tag 1.
+// The lowest fault of the first faulty field after tag 1. Clips go up to the limit.
 fn filters_fault(file: &[u8], limit: usize) -> Answer
     requires { ⌜ 4 ≤ length (now file) ⌝ }
     ensures { λ r. ⌜ number r ≡ filtersFault limit 0 (fields (drop 4 (now (file .entry))) 0) ⌝ }
@@ -54,7 +55,7 @@ fn filters_fault(file: &[u8], limit: usize) -> Answer
     }
 }
 
-// The depth of a file.
+// The bit depth of an accepted file.
 fn depth_of(file: &[u8]) -> u8
     requires { ⌜ 4 ≤ length (now file) ⌝ }
     ensures { λ r. ⌜ r ≡ readDepth (now (file .entry)) ⌝ }
@@ -62,7 +63,7 @@ fn depth_of(file: &[u8]) -> u8
     file[3]
 }
 
-// What is wrong with a file, for a bank of some length.
+// The fault of a file that is to be stored in a bank of some length.
 fn judge_file(file: &[u8], bank_length: usize) -> Answer
     ensures { λ r. ⌜ number r ≡ readFault (now (file .entry)) «bank_length» ⌝ }
 {
@@ -79,8 +80,8 @@ fn judge_file(file: &[u8], bank_length: usize) -> Answer
     filters_fault(file, clip_limit(file[3]))
 }
 
-// The lowest fault of the first faulty field, or the bit depth; a file that is rejected leaves the bank as it was, and one that is accepted
-// is stored whole.
+// Stores the filters of a file in a bank and returns the bit depth, or rejects the file for the lowest fault of its first faulty field. A
+// file that is rejected leaves the bank as it was; one that is accepted is stored whole.
 pub fn read_bank(file: &[u8], bank: &mut [i16]) -> BankRead
     ensures { λ r. ⌜ (
         let fault = readFault (now (file .entry)) (length (now (bank .entry))) in

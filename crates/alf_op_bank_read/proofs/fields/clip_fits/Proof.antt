@@ -1,22 +1,13 @@
 -- `alf_op_bank_read::fields::clip_fits` meets its contract. Assumes nothing.
 use borrow.Author.Needs.{needs}
-use Rattle.alf_op_bank_read.proofs.FieldTests.{clip-from}
+use Rattle.alf_bank.specs.Reading.{clipFits}
 use Rattle.alf_op_bank_read.proofs.fields.clip_fits.Statement.{statement}
 use Rattle.alf_op_bank_read.proofs.fields.clip_fits.Tie as tie
 
 pub clip-fits-spec : {M : Type 1} → statement M
+unfolding clipFits
 clip-fits-spec =
     tie.close
     (tie.spec
-    (λ c. search needs)
     (λ c κs. search needs)
-    (λ c. search needs)
-    (λ c. search needs)
-    (λ c. search needs)
-    (λ c. search needs)
-    (λ c. search needs)
-    (λ c. search needs)
-    (λ c. search needs)
-    (λ c. search needs)
-    (λ c κs. search needs)
-    (λ c. search clip-from))
+    (λ c. rw (c .clip-word .ensures)))

@@ -1,8 +1,8 @@
--- `alf_op_bank_read::fill::clip_word` meets its contract. Assumes nothing.
+-- `alf_op_bank_read::fields::clip_word` meets its contract. Assumes nothing.
 use borrow.Author.Needs.{needs}
-use Rattle.alf_op_bank_read.proofs.Fills.{clip-word-is}
-use Rattle.alf_op_bank_read.proofs.fill.clip_word.Statement.{statement}
-use Rattle.alf_op_bank_read.proofs.fill.clip_word.Tie as tie
+use Rattle.alf_op_bank_read.proofs.FieldTests.{clip-from}
+use Rattle.alf_op_bank_read.proofs.fields.clip_word.Statement.{statement}
+use Rattle.alf_op_bank_read.proofs.fields.clip_word.Tie as tie
 
 pub clip-word-spec : {M : Type 1} → statement M
 clip-word-spec =
@@ -19,4 +19,4 @@ clip-word-spec =
     (λ c. search needs)
     (λ c. search needs)
     (λ c κs. search needs)
-    (λ c. search clip-word-is))
+    (λ c. search clip-from))
