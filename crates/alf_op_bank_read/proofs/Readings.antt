@@ -1,4 +1,4 @@
--- A file that is accepted, for a bank of some length. Assumes nothing.
+-- What is known of a file that is accepted, and the bank that it is stored in. Assumes nothing.
 use mathlib.Core.Path.{_≡_, sym, _∙_, ap}
 use mathlib.Core.Bool.{Bool, true, cond}
 use mathlib.Core.List.{List}
@@ -18,6 +18,7 @@ use Rattle.alf_bank.specs.Reading.{lengthOf, fields, filtersFault, fieldsFault,
 use Rattle.alf_bank.proofs.AcceptedFiles.{read-faults}
 use Rattle.alf_bank.proofs.FieldFaults.{depth-small}
 
+-- the bank has the length n
 module _ (file : List ℕ) (n : ℕ) (ok : readFault file n ≡ 0) where
   accepted : (n ≡ 6016) × (readFault file 6016 ≡ 0)
   unfolding readFault unless
@@ -28,12 +29,14 @@ module _ (file : List ℕ) (n : ℕ) (ok : readFault file n ≡ 0) where
   pub read-size : n ≡ 6016
   read-size = accepted .0
 
+  -- the first field says the bit depth
   first : (4 ≤ length file) × (8 ≤ getD file 3 0) × (getD file 3 0 ≤ 12) × (lengthOf file ≡ 1)
   first = depth-small file 0 0 (read-faults file (accepted .1) .0)
 
   pub read-there : 4 ≤ length file
   read-there = first .0
 
+  -- the code has the depth d, and from it the limit of the clips
   module _ {d : ℕ} (q : d ≡ readDepth file) where
     pub read-depth : d ≤ 12
     unfolding readDepth
@@ -55,8 +58,11 @@ module _ (file : List ℕ) (n : ℕ) (ok : readFault file n ≡ 0) where
     unfolding between
     zeros =
         ext-getD (pos 0) clear (replicate 6016 (pos 0)) (read-cleared ∙ sym (length-replicate 6016 (pos 0)))
-        (λ x h. let l = read-cleared in let s = read-size in
-        c .at x (omega arith) ∙ (ap (λ (t : Bool). cond t (pos 0) (getD old x (pos 0))) (in-range x (omega arith))
+        (λ x h.
+        let l = read-cleared in
+        let s = read-size in
+        c .at x (omega arith)
+        ∙ (ap (λ (t : Bool). cond t (pos 0) (getD old x (pos 0))) (in-range x (omega arith))
         ∙ sym (getD-replicate 6016 x (pos 0) (pos 0) (omega arith))))
       where
         in-range : (x : ℕ) → x < 6016 → between 0 6016 x ≡ true

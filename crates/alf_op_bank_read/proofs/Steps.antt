@@ -38,17 +38,17 @@ module _ (file : List ℕ) (at : ℕ) where
   pub at-end : length file ≤ at → fields (drop at file) 0 ≡ []
   at-end h = rw (drop-of-length-le file h) fields-none
 
--- a fault decides, and without one the rest
-first-fault : (f : Fault) (rest : ℕ) → firstOf (faultNumber f) rest ≡ faultNumber f
-first-fault f rest = rw (numbered f)
+-- a fault decides, whatever comes after it
+decides : (f : Fault) (rest : ℕ) → firstOf (faultNumber f) rest ≡ faultNumber f
+decides f rest = rw (numbered f)
 
--- ---- what a step says of the fields from its position on
+-- ---- a loop over the fields: what a step says of those from its position on
 
 module _ (file : List ℕ) (at limit from : ℕ) {s : Step} (seen : Seen s file at limit from) where
   pub seen-as : {t : Step} → s ≡ t → Seen t file at limit from
   seen-as q = subst (λ (t : Step). Seen t file at limit from) q seen
 
-  -- where those come to what all fields come to
+  -- `all` is what all fields come to, and the fields from the position on come to the same
   module _ {all : ℕ} (left : filtersFault limit from (fields (drop at file) 0) ≡ all) where
     pub loop-end : s ≡ End → 0 ≡ all
     unfolding filtersFault
@@ -59,7 +59,7 @@ module _ (file : List ℕ) (at limit from : ℕ) {s : Step} (seen : Seen s file 
     loop-fault {f} q =
         let t = seen-as q in
         let later = filtersFault limit (suc (orderOf (idOf (drop at file)))) (fields (drop (at + (3 + lengthOf (drop at file))) file) 0) in
-        sym (first-fault f later)
+        sym (decides f later)
         ∙ (ap (λ (n : ℕ). firstOf n later) (t .1) ∙ (sym (ap (filtersFault limit from) (at-field file at (t .0))) ∙ left))
 
     pub loop-left : {a k : ℕ} → s ≡ Filter a k → filtersFault limit k (fields (drop a file) 0) ≡ all
@@ -72,6 +72,7 @@ module _ (file : List ℕ) (at limit from : ℕ) {s : Step} (seen : Seen s file 
   loop-good q = good-of limit from (drop at file) (seen-as q .1)
 
   module _ {a k : ℕ} (q : s ≡ Filter a k) where
+    -- a field has bytes, and they are in the file
     goes-on : (at < a) × (a ≤ length file)
     goes-on =
         let t = seen-as q in
@@ -92,6 +93,7 @@ module _ (file : List ℕ) (at limit from : ℕ) {f : List ℕ} (is : f ≡ drop
   pub step-bad : {fault : Fault} → a ≡ Rejected fault → Seen (Faulty fault) file at limit from
   step-bad q = (h, sym (ap number q) ∙ (e ∙ ap (fieldFault false limit from) is))
 
+  -- the field has no fault, so it is a filter's
   module _ (q : a ≡ Accepted) where
     none : fieldFault false limit from f ≡ 0
     none = accepts a e q
@@ -105,6 +107,7 @@ module _ (file : List ℕ) (at limit from : ℕ) {f : List ℕ} (is : f ≡ drop
     pub good-leads : 6 ≤ length f
     good-leads = has-leads f (filter-reaches f (good-field .complete) (good-field .known) (good-field .filter))
 
+    -- i is the filter that the field names, k its place in file order, len the length that it states
     pub step-good : {i : FilterId} {k len : ℕ} → i ≡ idOf f → k ≡ orderOf i → len ≡ lengthOf f
         → Seen (Filter (at + (3 + len)) (k + 1)) file at limit from
     step-good ei ek el = (h, rw is at none, rw (el, is), rw (add-one, ek, ei, is))
@@ -112,6 +115,7 @@ module _ (file : List ℕ) (at limit from : ℕ) {f : List ℕ} (is : f ≡ drop
 -- ---- the whole file: a is what the code says of the first field
 
 module _ (file : List ℕ) (a : Answer) (e : number a ≡ fieldFault true 0 0 file) (q : a ≡ Accepted) where
+  -- it is that of a bit depth of 8 to 12
   small : (4 ≤ length file) × (8 ≤ getD file 3 0) × (getD file 3 0 ≤ 12) × (lengthOf file ≡ 1)
   small = depth-small file 0 0 (accepts a e q)
 
@@ -143,12 +147,13 @@ module _ (file : List ℕ) (n : ℕ) where
       pub first-faulty : {f : Fault} → a ≡ Rejected f → faultNumber f ≡ readFault file n
       first-faulty {f} q =
           let later = filtersFault (2 ^ getD file 3 0) 0 (fields (drop (3 + lengthOf file) file) 0) in
-          sym (first-fault f later) ∙ (ap (λ (m : ℕ). firstOf m later) (sym (ap number q)) ∙ sym read-is)
+          sym (decides f later) ∙ (ap (λ (m : ℕ). firstOf m later) (sym (ap number q)) ∙ sym read-is)
 
       pub rest-decides : a ≡ Accepted → {limit r : ℕ} → limit ≡ 2 ^ getD file 3 0 → r ≡ filtersFault limit 0 (fields (drop 4 file) 0)
           → r ≡ readFault file n
       rest-decides q l d = d ∙ sym (read-is ∙ rw (ap number q, small file a e q .3, l))
 
--- a part of a file that runs to its end
+-- ---- a part of a file that runs to its end
+
 pub to-the-end : (l : List ℕ) (at : ℕ) → take (length l - at) (drop at l) ≡ drop at l
 to-the-end l at = take-all (length l - at) (drop at l) (rw length-drop (omega arith))

@@ -14,12 +14,13 @@ use Rattle.alf_op_bank_read.specs.declared.Step.the-variants.{End, Fault
 abbrev pub Reaches : List ℕ → Type 0
 Reaches field = 3 + sizeOf (shapeOf (tagOf field)) ≤ length field
 
--- and its clips fit a signed 16-bit number
+-- they are there, and each clip fits a signed 16-bit number
 pub record Storable (field : List ℕ) : Type 0 where
   pub reaches : Reaches field
   pub clips : (j : ℕ) → j < shapeOf (tagOf field) .clips → clipAt field j < 32768
 
--- what stands at a position after tag 1: the end; a faulty field; or a filter's field, with the position and the place in file order after it
+-- what stands at a position after tag 1: the end; a faulty field; or a filter's field, with the position and the place in file order
+-- after it
 abbrev pub Seen : Step → List ℕ → ℕ → ℕ → ℕ → Type 0
 Seen End file at limit from = length file ≤ at
 Seen (Faulty f) file at limit from = (at < length file) × (faultNumber f ≡ fieldFault false limit from (drop at file))

@@ -1,6 +1,5 @@
 -- `alf_op_bank_read::judge_file` meets its contract: the length of the bank, then the first field, then the others. Assumes nothing.
 use borrow.Author.Needs.{needs}
-use native.Mathlib.Omega.{arith}
 use Rattle.alf_op_bank_read.proofs.Steps.{wrong-length, empty-file, first-faulty, depth-there, depth-most, rest-decides}
 use Rattle.alf_op_bank_read.proofs.judge_file.Statement.{statement}
 use Rattle.alf_op_bank_read.proofs.judge_file.Tie as tie

@@ -3,7 +3,7 @@ use borrow.Author.Needs.{needs}
 use mathlib.Core.Path.{_∙_, ap}
 use mir.Syntax.{w16}
 use lib.IntN.{pos}
-use Rattle.alf_op_bank_read.proofs.Fills.{clip-fits}
+use Rattle.alf_op_bank_read.proofs.Fills.{clip-small}
 use Rattle.alf_math.proofs.Magnitude.{returned}
 use Rattle.alf_op_bank_read.proofs.fill.clip_number.Statement.{statement}
 use Rattle.alf_op_bank_read.proofs.fill.clip_number.Tie as tie
@@ -13,5 +13,5 @@ clip-number-spec =
     tie.close
     (tie.spec
     (λ c κs. search needs)
-    (λ c κs. search clip-fits)
+    (λ c κs. search clip-small)
     (λ c. returned w16 (c .as-number .ok) (c .as-number .ensures ∙ ap pos (c .before .clip-word .ensures))))

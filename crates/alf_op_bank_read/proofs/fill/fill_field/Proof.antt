@@ -1,15 +1,15 @@
 -- `alf_op_bank_read::fill::fill_field` meets its contract: each turn stores one number. Assumes nothing.
-use borrow.Author.Needs.{needs}
 use mathlib.Core.Path.{_≡_}
 use Prim.Native.Nat.{_-_}
 use native.Mathlib.Omega.{arith}
+use borrow.Author.Needs.{needs}
 use mir.Syntax.{w16}
 use lib.IntN.{pos}
 use lib.ListN.{length}
+use Rattle.alf_math.proofs.Magnitude.{returned}
 use Rattle.alf_lists.proofs.Pasted.{Pasted, paste-none, paste-more, paste-done}
 use Rattle.alf_bank.specs.Reading.{fieldNumbers}
 use Rattle.alf_op_bank_read.proofs.Fills.{numbers-many}
-use Rattle.alf_math.proofs.Magnitude.{returned}
 use Rattle.alf_op_bank_read.proofs.fill.fill_field.Statement.{statement}
 use Rattle.alf_op_bank_read.proofs.fill.fill_field.Tie as tie
 
@@ -18,6 +18,13 @@ Inv-loop field bank₀ start count j₀ bank j = (count ≡ length (fieldNumbers
 
 abbrev μ-loop : tie.MeasureT-loop
 μ-loop field bank₀ start count j₀ bank j = count - j
+
+-- number j is stored
+stored : tie.Need-loop-again Inv-loop μ-loop
+stored c =
+    let turn = c .before .before .loop .inv in
+    let number = c .number-at in
+    (turn .0, paste-more (pos 0) _ (turn .1) (omega arith) (omega arith) (returned w16 (number .ok) (number .ensures)))
 
 pub fill-field-spec : {M : Type 1} → statement M
 fill-field-spec =
@@ -35,6 +42,6 @@ fill-field-spec =
     (λ c. omega arith)
     (λ c. search needs)
     (λ c. search needs)
-    (λ c. (c .before .before .loop .inv .0, paste-more (pos 0) _ (c .before .before .loop .inv .1) (omega arith) (omega arith) (returned w16 (c .number-at .ok) (c .number-at .ensures))))
+    stored
     (λ c. c .before .loop .inv .1 .len)
     (λ c. paste-done (c .before .loop .inv .1) (omega arith)))

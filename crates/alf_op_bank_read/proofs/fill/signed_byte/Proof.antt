@@ -11,17 +11,21 @@ use Rattle.alf_op_bank_read.proofs.fill.signed_byte.Statement.{statemen
 use Rattle.alf_op_bank_read.proofs.fill.signed_byte.Tie as tie
 
 difference : tie.Need-sub-result
-difference c = rw (back w16 (c .before .args .b) (omega arith)) (fits-abs (omega (arith, abs-sub (pos (c .before .args .b)) (pos 256))))
+difference c =
+    let b = c .before .args .b in
+    rw (back w16 b (omega arith)) (fits-abs (omega (arith, abs-sub (pos b) (pos 256))))
 
-returns-2 : tie.Need-returns-2
-returns-2 c = toZ-ofZ (difference c) ∙ rw (back w16 (c .before .args .b) (omega arith)) (byte-high (c .before .args .b) (c .if1 .left) (omega arith))
+high : tie.Need-returns-2
+high c =
+    let b = c .before .args .b in
+    toZ-ofZ (difference c) ∙ rw (back w16 b (omega arith)) (byte-high b (c .if1 .left) (omega arith))
 
 pub signed-byte-spec : {M : Type 1} → statement M
 signed-byte-spec =
     tie.close
     (tie.spec
     (λ c. search needs)
-    (λ c. back w16 (c .before .args .b) (omega arith) ∙ byte-low (c .before .args .b) (c .if1 .taken))
+    (λ c. let b = c .before .args .b in back w16 b (omega arith) ∙ byte-low b (c .if1 .taken))
     (λ c. search needs)
     difference
-    returns-2)
+    high)

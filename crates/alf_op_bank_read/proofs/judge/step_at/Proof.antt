@@ -1,6 +1,5 @@
--- `alf_op_bank_read::judge::step_at` meets its contract. Assumes nothing.
+-- `alf_op_bank_read::judge::step_at` meets its contract: the judge's answer says which kind of step it is. Assumes nothing.
 use borrow.Author.Needs.{needs}
-use native.Mathlib.Omega.{arith}
 use Rattle.alf_op_bank_read.proofs.Steps.{step-bad, step-good, good-head, good-leads}
 use Rattle.alf_op_bank_read.proofs.judge.step_at.Statement.{statement}
 use Rattle.alf_op_bank_read.proofs.judge.step_at.Tie as tie
