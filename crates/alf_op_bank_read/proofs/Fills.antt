@@ -73,8 +73,8 @@ module _ {limit from : ℕ} (f : List ℕ) (g : Good limit from f) where
       record {
         reaches = filter-reaches f (g .complete) (g .known) (g .filter);
         clips = λ j h.
-          let c = leb-true (clipAt f j) limit (all-at (shapeOf (tagOf f) .clips) (clipFits limit f) (g .clips) j h) in
-          omega arith;
+            let c = leb-true (clipAt f j) limit (all-at (shapeOf (tagOf f) .clips) (clipFits limit f) (g .clips) j h) in
+            omega arith;
       }
 
   pub good-fits : startOf (idOf f) + countOf (shapeOf (tagOf f)) ≤ 6016

@@ -8,8 +8,7 @@ use Rattle.alf_op_bank_read.proofs.fill.store_at.Tie as tie
 asked : tie.Need-fill-field-requires
 asked c κs =
     let start : tie.Start = search needs in
-    let part : tie.After-bytes-from = search needs in
-    (
+    let part : tie.After-bytes-from = search needs in (
       search part-storable,
       part-fits (part .bytes-from .ensures) (c .before .before .id-of .ensures) (c .before .start-of .ensures) (start .pre .2),
     )

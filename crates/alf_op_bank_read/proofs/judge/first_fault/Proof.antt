@@ -1,5 +1,5 @@
--- `alf_op_bank_read::judge::first_fault` meets its contract: at each return the tests that led there say which fault is the lowest. Assumes
--- nothing.
+-- `alf_op_bank_read::judge::first_fault` meets its contract: at each return the tests that led there say which fault is the lowest.
+-- Assumes nothing.
 use mathlib.Core.Path.{_≡_}
 use mathlib.Core.Bool.{true}
 use mathlib.Core.List.{List}

@@ -1,8 +1,8 @@
 -- `alf_op_bank_read::reader::next_step` meets its contract. The borrow checker does not cover a struct that holds a reference, so this is a
 -- walk of the MIR by hand: the reading state is taken apart, and `step_at` is called on the slice and the numbers. All that the proof knows
 -- of `step_at` is that it meets its contract.
--- The struct is Copy, so what it owns is had twice: one copy is kept whole for the exit; of the other, what the file owns goes to the callee,
--- beside the lifetime's token, which comes back.
+-- The struct is Copy, so what it owns is had twice: one copy is kept whole for the exit; of the other, what the file owns goes to the
+-- callee, beside the lifetime's token, which comes back.
 -- Assumes nothing.
 use mathlib.Core.Path.{_≡_, refl}
 use Prim.Native.Nat.{ℕ, _<_, _^_}
@@ -242,9 +242,10 @@ module _ {M : Type 1} (𝓤 : URA M) (H : Heap 𝓤) (A : Atoms 𝓤) (mem : Mem
   next-step-meets : (𝓣 : Tables 𝓤 H) → Triple 𝓤 (𝓣 .C #step-at) (StepAt 𝓤 H A mem run)
       → Meets 𝓤 H A next-step.signature (WpFn 𝓤 H (𝓣 .C) (𝓣 .Λ) code.function) (next-step.spec 𝓤 H A mem run)
   next-step-meets 𝓣 known =
-      walk-meets 𝓤 H A next-step.ended stayed W
-      (goes-none 𝓤 H A W 1 State yes (λ κs x f. refl),
-      (goes-none 𝓤 H A W 1 (λ _. usize) yes (λ κs x f. refl), (goes-none 𝓤 H A W 1 (λ _. usize) yes (λ κs x f. refl), tt)))
+      walk-meets 𝓤 H A next-step.ended stayed W (
+        goes-none 𝓤 H A W 1 State yes (λ κs x f. refl),
+        (goes-none 𝓤 H A W 1 (λ _. usize) yes (λ κs x f. refl), (goes-none 𝓤 H A W 1 (λ _. usize) yes (λ κs x f. refl), tt)),
+      )
       (next-step.clauses 𝓤 H A mem run) (WpFn 𝓤 H (𝓣 .C) (𝓣 .Λ) code.function) (WpFn-mono 𝓤 H (W .laws) 𝓣 code.function)
       (next-step-walks (𝓣 .C) (𝓣 .Λ) (fmOf 𝓤 H (W .laws) 𝓣) known)
 

@@ -1,6 +1,6 @@
 -- `alf_op_bank_read::reader::step_in` meets its contract. The borrow checker does not cover a struct that holds a reference, so this is a
--- walk of the MIR by hand: the reading state that `reader_at` returns is held in a local and passed to `next_step`. All that the proof knows
--- of the two is that each meets its contract.
+-- walk of the MIR by hand: the reading state that `reader_at` returns is held in a local and passed to `next_step`. All that the proof
+-- knows of the two is that each meets its contract.
 -- The machine value that `reader_at` returns is stored and passed on as it is. In a local of a body MIR erases the lifetime of the struct's
 -- type, so the value is shown to have the type at `erased`: what the struct owns does not say the lifetime's name.
 -- Assumes nothing.
@@ -69,9 +69,10 @@ State κs = state.the-row (namedLft 1 0 tt κs)
 
 -- no parameter is changed: what each has at exit is what it had on entry
 abbrev stayed : Stays (step-in.ended .signature .params) (step-in.ended .kept)
-stayed =
-    (stay-none-slice (0 ∷ []) tt (plain (λ _. u8)) yes,
-    (stay-none (λ _. usize) yes, (stay-none (λ _. usize) yes, (stay-none (λ _. usize) yes, tt))))
+stayed = (
+  stay-none-slice (0 ∷ []) tt (plain (λ _. u8)) yes,
+  (stay-none (λ _. usize) yes, (stay-none (λ _. usize) yes, (stay-none (λ _. usize) yes, tt))),
+)
 
 module _ {M : Type 1} (𝓤 : URA M) (H : Heap 𝓤) (A : Atoms 𝓤) (mem : Memory → SProp 𝓤) (run : Routine → Fun 𝓤) where
   -- the contracts that the proof cites
@@ -233,7 +234,8 @@ module _ {M : Type 1} (𝓤 : URA M) (H : Heap 𝓤) (A : Atoms 𝓤) (mem : Mem
           split ! $ move ! (1 ∷ []) $
           -- [what the struct owns; the token; what s owns; room for _5; …; _4; …; _3; …; _2; …; _1; …; room for _0; …]
           peeks ! (State (κ, tt)) (Is (State (κ, tt))) (shows 𝓤 H A (State (κ, tt))) r (u ∷ []) (λ is.
-          land ! (from ! (stop !)) (init ! 3 refl (struct-laws.lawful (state.the-type αᵉ) (state-laws.the-laws αᵉ) 𝓤 H A W .typed r _ is .0)) $
+          land ! (from ! (stop !))
+          (init ! 3 refl (struct-laws.lawful (state.the-type αᵉ) (state-laws.the-laws αᵉ) 𝓤 H A W .typed r _ is .0)) $
           -- _5 is the struct
           use2 W (raw (AskedNext r u)) (goes-next-step r u) $
           -- [what the callee asks; what s owns; _5; …; _4; …; _3; …; _2; …; _1; …; room for _0; …]
@@ -271,10 +273,13 @@ module _ {M : Type 1} (𝓤 : URA M) (H : Heap 𝓤) (A : Atoms 𝓤) (mem : Mem
       → Triple 𝓤 (𝓣 .C #next-step) (NextStep 𝓤 H A mem run)
       → Meets 𝓤 H A step-in.signature (WpFn 𝓤 H (𝓣 .C) (𝓣 .Λ) code.function) (step-in.spec 𝓤 H A mem run)
   step-in-meets 𝓣 known-reader-at known-next-step =
-      walk-meets 𝓤 H A step-in.ended stayed W
-      (goes-none-slice 𝓤 H A W 1 (0 ∷ []) tt (plain (λ _. u8)) yes,
-      (goes-none 𝓤 H A W 1 (λ _. usize) yes (λ κs x f. refl),
-      (goes-none 𝓤 H A W 1 (λ _. usize) yes (λ κs x f. refl), (goes-none 𝓤 H A W 1 (λ _. usize) yes (λ κs x f. refl), tt))))
+      walk-meets 𝓤 H A step-in.ended stayed W (
+        goes-none-slice 𝓤 H A W 1 (0 ∷ []) tt (plain (λ _. u8)) yes,
+        (
+          goes-none 𝓤 H A W 1 (λ _. usize) yes (λ κs x f. refl),
+          (goes-none 𝓤 H A W 1 (λ _. usize) yes (λ κs x f. refl), (goes-none 𝓤 H A W 1 (λ _. usize) yes (λ κs x f. refl), tt)),
+        ),
+      )
       (step-in.clauses 𝓤 H A mem run) (WpFn 𝓤 H (𝓣 .C) (𝓣 .Λ) code.function) (WpFn-mono 𝓤 H (W .laws) 𝓣 code.function)
       (step-in-walks (𝓣 .C) (𝓣 .Λ) (fmOf 𝓤 H (W .laws) 𝓣) known-reader-at known-next-step)
 
