@@ -1,4 +1,4 @@
--- A row of fields one by one. Assumes nothing.
+-- A row of fields one by one: where the next field of a row begins. Assumes nothing.
 use mathlib.Core.Path.{_≡_, refl, ap}
 use mathlib.Core.List.{List, [], _∷_}
 use Prim.Native.Nat.{ℕ, zero, suc, _+_, _<_}

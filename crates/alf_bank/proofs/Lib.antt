@@ -1,12 +1,13 @@
--- The claims (BankFiles), and the laws that they and the operations stand on.
-pub mod Tables
-pub mod FileOrder
-pub mod ByTag
-pub mod Fields
-pub mod FieldFaults
-pub mod FieldRows
-pub mod ValidBanks
-pub mod WrittenFiles
-pub mod DecodedFields
+-- The claims about bank files (BankFiles), and the laws that they, the reader and the writer stand on.
 pub mod AcceptedFiles
 pub mod BankFiles
+pub mod ByTag
+pub mod DecodedFields
+pub mod FieldFaults
+pub mod FieldRows
+pub mod Fields
+pub mod FileOrder
+pub mod Tables
+pub mod ValidBanks
+pub mod WrittenBytes
+pub mod WrittenFiles

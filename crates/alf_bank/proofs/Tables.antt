@@ -31,7 +31,7 @@ module _ {A : Type 0} where
   pub table-same : (n : ℕ) (f g : ℕ → A) → ((k : ℕ) → k < n → f k ≡ g k) → table n f ≡ table n g
   unfolding table
   table-same zero f g h = refl
-  table-same (suc n) f g h = rw (h zero (omega arith), table-same n (λ k. f (suc k)) (λ k. g (suc k)) (λ k l. h (suc k) (omega arith)))
+  table-same (suc n) f g h = rw (h zero (omega arith), table-same n _ _ (λ k l. h (suc k) (omega arith)))
 
   -- a list is the table of its first entries, and the rest
   pub table-split : (n : ℕ) (d : A) (l : List A) → n ≤ length l → l ≡ table n (λ k. getD l k d) ++ drop n l
@@ -42,6 +42,12 @@ module _ {A : Type 0} where
 
 -- ---- words
 
+twice : (k : ℕ) → 2 * suc k ≡ suc (suc (2 * k))
+twice k = omega arith
+
+twice-more : (k : ℕ) → 2 * suc k + 1 ≡ suc (suc (2 * k + 1))
+twice-more k = omega arith
+
 pub words-length : (n : ℕ) (f : ℕ → ℕ) → length (words n f) ≡ 2 * n
 unfolding words
 words-length zero f = refl
@@ -50,50 +56,49 @@ words-length (suc n) f = let h = words-length n (λ k. f (suc k)) in omega arith
 pub words-same : (n : ℕ) (f g : ℕ → ℕ) → ((k : ℕ) → k < n → f k ≡ g k) → words n f ≡ words n g
 unfolding words
 words-same zero f g h = refl
-words-same (suc n) f g h = rw (h zero (omega arith), words-same n (λ k. f (suc k)) (λ k. g (suc k)) (λ k l. h (suc k) (omega arith)))
+words-same (suc n) f g h = rw (h zero (omega arith), words-same n _ _ (λ k l. h (suc k) (omega arith)))
+
+-- the first byte of word k, and the second, whatever follows the words
+pub words-high : (n : ℕ) (f : ℕ → ℕ) (rest : List ℕ) (k : ℕ) → k < n → getD (words n f ++ rest) (2 * k) 0 ≡ f k / 256
+unfolding words
+words-high zero f rest k h = absurd (omega arith)
+words-high (suc n) f rest zero h = refl
+words-high (suc n) f rest (suc k) h = rw twice (words-high n (λ j. f (suc j)) rest k (omega arith))
+
+pub words-low : (n : ℕ) (f : ℕ → ℕ) (rest : List ℕ) (k : ℕ) → k < n → getD (words n f ++ rest) (2 * k + 1) 0 ≡ f k % 256
+unfolding words
+words-low zero f rest k h = absurd (omega arith)
+words-low (suc n) f rest zero h = refl
+words-low (suc n) f rest (suc k) h = rw twice-more (words-low n (λ j. f (suc j)) rest k (omega arith))
 
 -- the word at two bytes of a list
 unfoldable pub wordAt : List ℕ → ℕ → ℕ
 wordAt l k = 256 * getD l k 0 + getD l (k + 1) 0
 
-pub words-at : (n : ℕ) (f : ℕ → ℕ) (rest : List ℕ) (k : ℕ) → k < n → wordAt (words n f ++ rest) (2 * k) ≡ f k
-unfolding words wordAt
-words-at zero f rest k h = absurd (omega arith)
-words-at (suc n) f rest zero h = omega arith
-words-at (suc n) f rest (suc k) h =
-    let e : 2 * suc k ≡ suc (suc (2 * k)) = omega arith in
-    let e′ : 2 * suc k + 1 ≡ suc (suc (2 * k + 1)) = omega arith in
-    rw (e′, e) (words-at n (λ j. f (suc j)) rest k (omega arith))
-
--- the bytes of a list, two by two
-pub words-split : (n : ℕ) (l : List ℕ) → 2 * n ≤ length l → ((k : ℕ) → getD l k 0 < 256) → l ≡ words n (λ k. wordAt l (2 * k)) ++ drop (2 * n) l
+-- a list of bytes is the words at its first bytes, and the rest
+pub words-split : (n : ℕ) (l : List ℕ) → 2 * n ≤ length l → ((k : ℕ) → getD l k 0 < 256)
+    → l ≡ words n (λ k. wordAt l (2 * k)) ++ drop (2 * n) l
 unfolding words wordAt
 words-split zero l h b = refl
 words-split (suc n) [] h b = absurd (omega arith)
 words-split (suc n) (x ∷ []) h b = absurd (omega arith)
 words-split (suc n) (x ∷ y ∷ l) h b =
     let small = b 1 in
-    let ex : (256 * x + y) / 256 ≡ x = omega arith in
-    let ey : (256 * x + y) % 256 ≡ y = omega arith in
-    let ed : drop (2 * suc n) (x ∷ y ∷ l) ≡ drop (2 * n) l = ap (λ (m : ℕ). drop m (x ∷ y ∷ l)) (double n) in
-    let ef = words-same n (λ k. wordAt (x ∷ y ∷ l) (2 * suc k)) (λ k. wordAt l (2 * k)) (λ k q. rw (double k) (ap (λ (m : ℕ). 256 * getD l (2 * k) 0 + getD (x ∷ y ∷ l) m 0) (suc-suc-add (2 * k)))) in
-    sym (rw (ex, ey, ef, ed) (ap (λ (m : List ℕ). x ∷ y ∷ m) (sym (words-split n l (omega arith) (λ k. b (suc (suc k)))))))
-  where
-    double : (k : ℕ) → 2 * suc k ≡ suc (suc (2 * k))
-    double k = omega arith
+    let high : (256 * x + y) / 256 ≡ x = omega arith in
+    let low : (256 * x + y) % 256 ≡ y = omega arith in
+    let rest = words-same n (λ k. wordAt (x ∷ y ∷ l) (2 * suc k)) (λ k. wordAt l (2 * k)) (λ k q. rw (twice-more k, twice k)) in
+    sym (rw (high, low, rest, twice n)
+    (ap (λ (m : List ℕ). x ∷ y ∷ m) (sym (words-split n l (omega arith) (λ k. b (suc (suc k)))))))
 
-    suc-suc-add : (k : ℕ) → suc (suc k) + 1 ≡ suc (suc (k + 1))
-    suc-suc-add k = omega arith
-
--- ---- bytes
+-- ---- bytes in two's complement
 
 pub byte-of-signed : (b : ℕ) → b < 256 → byteOf (signedByte b) ≡ b
 unfolding byteOf signedByte
-byte-of-signed b h = by-test (ltb b 128) refl
+byte-of-signed b h = by-test (ltb b 128)
   where
-    by-test : (t : Bool) → ltb b 128 ≡ t → byteOf (cond t (pos b) (negsuc (255 - b))) ≡ b
-    by-test true e = refl
-    by-test false e = omega arith
+    by-test : (t : Bool) → byteOf (cond t (pos b) (negsuc (255 - b))) ≡ b
+    by-test true = refl
+    by-test false = omega arith
 
 pub signed-of-byte : (z : ℤ) → coeffValid z ≡ true → signedByte (byteOf z) ≡ z
 unfolding byteOf signedByte coeffValid
@@ -103,11 +108,18 @@ signed-of-byte (negsuc n) e =
     let l : ltb (255 - n) 128 ≡ false = le-ltb (255 - n) 128 (omega arith) in
     simp l (ap negsuc (omega arith))
 
+pub byte-small : (z : ℤ) → coeffValid z ≡ true → byteOf z < 256
+unfolding coeffValid byteOf
+byte-small (pos n) e = let h = leb-true n 127 e in omega arith
+byte-small (negsuc n) e = omega arith
+
 -- a coefficient's byte is zero where it is
 pub byte-zero : (z : ℤ) → coeffValid z ≡ true → eqb (byteOf z) 0 ≡ eqb (natAbs z) 0
 unfolding byteOf coeffValid
 byte-zero (pos n) e = refl
-byte-zero (negsuc n) e = let h = leb-true n 127 (both (leb n 127) true e .0) in ne-eqb (255 - n) 0 (omega arith) ∙ sym (ne-eqb (suc n) 0 (omega arith))
+byte-zero (negsuc n) e =
+    let h = leb-true n 127 (both (leb n 127) true e .0) in
+    ne-eqb (255 - n) 0 (omega arith) ∙ sym (ne-eqb (suc n) 0 (omega arith))
 
 -- what a byte stands for is a coefficient
 pub signed-valid : (b : ℕ) → b < 256 → coeffValid (signedByte b) ≡ true
