@@ -1,4 +1,5 @@
-// The operations on a picture and on bank files, each from its own crate. None asks anything of its caller: each judges what it is given, then works.
+// The operations on a picture and on bank files, each from its own crate. None asks anything of its caller: each judges what it is given,
+// then works.
 mod answer_numbers;
 
 pub use alf_boundary::causes::cause_number;

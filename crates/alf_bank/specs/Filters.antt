@@ -1,5 +1,5 @@
--- The filters of a bank in the order of a bank file (02, card 2: the fields "rise by tag, then by the value's leading numbers"): their names, the
--- shape of their values, and where their numbers stand in a bank in memory. Assumes nothing.
+-- The filters of a bank in the order of a bank file (02, card 2: they "rise by tag, then by the value's leading numbers"): their names,
+-- the shape of their values, and where their numbers stand in a bank in memory. Assumes nothing.
 use mathlib.Core.Bool.{Bool, _&&_, cond}
 use mathlib.Core.List.{List, [], _∷_}
 use Prim.Native.Nat.{ℕ, zero, suc, _+_, _-_, _*_, _/_, _%_}

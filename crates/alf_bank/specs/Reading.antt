@@ -1,5 +1,5 @@
--- How a bank file is read, and when it is refused (02, card 2). A field is given by the bytes from its tag to the end of the file; where those
--- end too early, missing bytes read as 0, and the field is cut short. Assumes nothing.
+-- How a bank file is read, and when it is refused (02, card 2). A field is given by the bytes from its tag to the end of the file; where
+-- those end too early, missing bytes read as 0, and the field is cut short. Assumes nothing.
 use mathlib.Core.Bool.{Bool, true, false, not, _&&_, _||_, cond}
 use mathlib.Core.List.{List, [], _∷_, _++_}
 use mathlib.Core.Option.{Option, some, none}

@@ -1,5 +1,5 @@
-// Filter banks as files (02, card 2): one bank at one depth has one file. The definitions are in specs/ (Filters, Writing, Reading), what is
-// proved of them alone in proofs/BankFiles.antt; the reader and the writer have a crate each, and share what is here.
+// Filter banks as files (02, card 2): one bank at one depth has one file. The definitions are in specs/ (Filters, Writing, Reading), what
+// is proved of them alone in proofs/BankFiles.antt; the reader and the writer have a crate each, and share what is here.
 pub mod filters;
 
 use alf_spec::Fault;
