@@ -1,4 +1,4 @@
-// Storing the filters of a bank file that is accepted in a bank of zeros.
+// Storing the filters of an accepted bank file.
 ghost use mathlib.Core.Path.{_≡_};
 ghost use Prim.Native.Nat.{_+_, _≤_, _<_};
 ghost use lib.IntN.{pos};
@@ -35,7 +35,7 @@ fn coeff_number(field: &[u8], j: usize) -> i16
     signed_byte(field[3 + k])
 }
 
-// A clip as a bank in memory has it.
+// A clip as a number of a bank in memory.
 fn as_number(n: usize) -> i16
     requires { ⌜ n < 32768 ⌝ }
     ensures { λ r. ⌜ r ≡ pos n ⌝ }
@@ -43,7 +43,7 @@ fn as_number(n: usize) -> i16
     n as i16
 }
 
-// Clip j of a filter's field, as a bank in memory has it.
+// Clip j of a filter's field, as a number of a bank in memory.
 fn clip_number(field: &[u8], j: usize) -> i16
     requires { ⌜ Storable (now field) × (j < shapeOf (tagOf (now field)) .clips) ⌝ }
     ensures { λ r. ⌜ r ≡ pos (clipAt (now (field .entry)) j) ⌝ }

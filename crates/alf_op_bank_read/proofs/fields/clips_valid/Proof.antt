@@ -1,7 +1,7 @@
 -- `alf_op_bank_read::fields::clips_valid` meets its contract: the loop stops at the first clip that does not fit. Assumes nothing.
-use borrow.Author.Needs.{needs}
 use mathlib.Core.Path.{_≡_}
 use Prim.Native.Nat.{_-_}
+use borrow.Author.Needs.{needs}
 use Rattle.alf_spec.proofs.Scans.{Passed, scans}
 use Rattle.alf_bank.specs.Filters.{shapeOf}
 use Rattle.alf_bank.specs.Reading.{tagOf, clipFits}

@@ -1,7 +1,7 @@
 -- `alf_op_bank_read::fields::zero_field` meets its contract: the loop stops at the first byte that is not zero. Assumes nothing.
-use borrow.Author.Needs.{needs}
 use mathlib.Core.Path.{_≡_}
 use Prim.Native.Nat.{_+_, _-_, _*_}
+use borrow.Author.Needs.{needs}
 use Rattle.alf_spec.proofs.Scans.{Passed, scans}
 use Rattle.alf_bank.specs.Filters.{shapeOf}
 use Rattle.alf_bank.specs.Reading.{tagOf, byteZero}

@@ -1,6 +1,6 @@
 -- `alf_op_bank_read::fill::as_number` meets its contract. Assumes nothing.
-use borrow.Author.Needs.{needs}
 use native.Mathlib.Omega.{arith}
+use borrow.Author.Needs.{needs}
 use mir.Syntax.{w16}
 use Rattle.alf_math.proofs.Magnitude.{back}
 use Rattle.alf_op_bank_read.proofs.fill.as_number.Statement.{statement}

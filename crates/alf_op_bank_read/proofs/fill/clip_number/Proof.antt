@@ -1,10 +1,10 @@
 -- `alf_op_bank_read::fill::clip_number` meets its contract. Assumes nothing.
-use borrow.Author.Needs.{needs}
 use mathlib.Core.Path.{_∙_, ap}
-use mir.Syntax.{w16}
+use borrow.Author.Needs.{needs}
 use lib.IntN.{pos}
-use Rattle.alf_op_bank_read.proofs.Fills.{clip-small}
+use mir.Syntax.{w16}
 use Rattle.alf_math.proofs.Magnitude.{returned}
+use Rattle.alf_op_bank_read.proofs.Fills.{clip-small}
 use Rattle.alf_op_bank_read.proofs.fill.clip_number.Statement.{statement}
 use Rattle.alf_op_bank_read.proofs.fill.clip_number.Tie as tie
 

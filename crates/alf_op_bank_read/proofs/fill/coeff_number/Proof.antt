@@ -1,8 +1,8 @@
 -- `alf_op_bank_read::fill::coeff_number` meets its contract. Assumes nothing.
 use borrow.Author.Needs.{needs}
 use mir.Syntax.{w16}
-use Rattle.alf_op_bank_read.proofs.Fills.{coeff-from}
 use Rattle.alf_math.proofs.Magnitude.{returned}
+use Rattle.alf_op_bank_read.proofs.Fills.{coeff-from}
 use Rattle.alf_op_bank_read.proofs.fill.coeff_number.Statement.{statement}
 use Rattle.alf_op_bank_read.proofs.fill.coeff_number.Tie as tie
 

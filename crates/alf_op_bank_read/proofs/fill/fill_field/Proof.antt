@@ -3,9 +3,9 @@ use mathlib.Core.Path.{_≡_}
 use Prim.Native.Nat.{_-_}
 use native.Mathlib.Omega.{arith}
 use borrow.Author.Needs.{needs}
-use mir.Syntax.{w16}
 use lib.IntN.{pos}
 use lib.ListN.{length}
+use mir.Syntax.{w16}
 use Rattle.alf_math.proofs.Magnitude.{returned}
 use Rattle.alf_lists.proofs.Pasted.{Pasted, paste-none, paste-more, paste-done}
 use Rattle.alf_bank.specs.Reading.{fieldNumbers}

@@ -1,8 +1,8 @@
 -- `alf_op_bank_read::fill::number_at` meets its contract. Assumes nothing.
 use borrow.Author.Needs.{needs}
 use mir.Syntax.{w16}
-use Rattle.alf_op_bank_read.proofs.Fills.{number-coeff, number-clip}
 use Rattle.alf_math.proofs.Magnitude.{returned}
+use Rattle.alf_op_bank_read.proofs.Fills.{number-coeff, number-clip}
 use Rattle.alf_op_bank_read.proofs.fill.number_at.Statement.{statement}
 use Rattle.alf_op_bank_read.proofs.fill.number_at.Tie as tie
 

@@ -1,12 +1,12 @@
 -- `alf_op_bank_read::fill::signed_byte` meets its contract: from 128 on, the byte less 256. Assumes nothing.
-use borrow.Author.Needs.{needs}
 use mathlib.Core.Path.{_∙_}
 use native.Mathlib.Omega.{arith}
+use borrow.Author.Needs.{needs}
+use lib.IntN.{pos}
 use mir.Syntax.{w16}
 use mir.Facts.{toZ-ofZ}
-use lib.IntN.{pos}
-use Rattle.alf_op_bank_read.proofs.Fills.{byte-low, byte-high}
 use Rattle.alf_math.proofs.Magnitude.{back, abs-sub, fits-abs}
+use Rattle.alf_op_bank_read.proofs.Fills.{byte-low, byte-high}
 use Rattle.alf_op_bank_read.proofs.fill.signed_byte.Statement.{statement}
 use Rattle.alf_op_bank_read.proofs.fill.signed_byte.Tie as tie
 
