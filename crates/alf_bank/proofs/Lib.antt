@@ -7,6 +7,7 @@ pub mod FieldFaults
 pub mod FieldRows
 pub mod Fields
 pub mod FileOrder
+pub mod Rejections
 pub mod Tables
 pub mod ValidBanks
 pub mod WrittenBytes
