@@ -12,9 +12,9 @@ judge-bank-spec =
     tie.close
     (tie.spec
     (λ c κs. search needs)
-    (λ c. search (stops, goes) depth 8)
+    (λ c. search stops)
     (λ c κs. search needs)
     (λ c. search (stops, goes) depth 8)
     (λ c κs. search depth-at-most)
     (λ c. search (stops, goes) depth 8)
-    (λ c. search (stops, goes) depth 8))
+    (λ c. search goes depth 8))

@@ -1,6 +1,6 @@
 -- `alf_op_bank_write::write_depth` meets its contract. Assumes nothing.
-use borrow.Author.Needs.{needs}
 use native.Mathlib.Omega.{arith}
+use borrow.Author.Needs.{needs}
 use lib.ListN.{length-set}
 use Rattle.alf_op_bank_write.proofs.Files.{depth-written}
 use Rattle.alf_op_bank_write.proofs.write_depth.Statement.{statement}

@@ -1,8 +1,8 @@
 -- `alf_op_bank_write::write_filters` meets its contract: a turn of the loop writes one filter. Assumes nothing.
-use borrow.Author.Needs.{needs}
 use Prim.Native.Nat.{_-_}
 use native.Mathlib.Omega.{arith}
-use Rattle.alf_op_bank_write.proofs.Files.{Progress, wrote-none, wrote-room, wrote-more, wrote-place, wrote-file}
+use borrow.Author.Needs.{needs}
+use Rattle.alf_op_bank_write.proofs.Files.{Progress, wrote-none, wrote-room, wrote-more, wrote-all}
 use Rattle.alf_op_bank_write.proofs.write_filters.Statement.{statement}
 use Rattle.alf_op_bank_write.proofs.write_filters.Tie as tie
 
@@ -12,6 +12,21 @@ Inv-loop bank file₀ at₀ k₀ file at k = Progress bank file₀ k at file
 abbrev μ-loop : tie.MeasureT-loop
 μ-loop bank file₀ at₀ k₀ file at k = 328 - k
 
+-- the bank's filters can be written, and the buffer is long enough
+given : tie.Need-write-filter-requires Inv-loop μ-loop
+given c κs =
+    let s : tie.Start Inv-loop μ-loop = search needs in
+    let turn : tie.In-loop Inv-loop μ-loop = search needs in
+    let loop = turn .before .loop in
+    (omega arith, s .pre .0 (loop .k) (omega arith), wrote-room (s .pre .1) (loop .inv) (omega arith))
+
+again : tie.Need-loop-again Inv-loop μ-loop
+again c =
+    let s : tie.Start Inv-loop μ-loop = search needs in
+    let turn : tie.In-loop Inv-loop μ-loop = search needs in
+    let wrote : tie.After-write-filter Inv-loop μ-loop = search needs in
+    wrote-more (s .pre .1) (turn .before .loop .inv) (omega arith) (wrote .write-filter .ensures .0) (wrote .write-filter .ensures .1)
+
 pub write-filters-spec : {M : Type 1} → statement M
 write-filters-spec =
     tie.close
@@ -19,9 +34,9 @@ write-filters-spec =
     Inv-loop
     μ-loop
     (λ c. wrote-none)
-    (λ c κs. (omega arith, c .before .before .before .before .pre .0 (c .before .before .loop .k) (omega arith), wrote-room (c .before .before .before .before .pre .1) (c .before .before .loop .inv) (omega arith)))
+    given
     (λ c. search needs)
     (λ c. search needs)
-    (λ c. wrote-more (c .before .before .before .before .before .before .before .pre .1) (c .before .before .before .before .before .loop .inv) (omega arith) (c .before .before .write-filter .ensures .0) (c .before .before .write-filter .ensures .1))
+    again
     (λ c. c .before .loop .inv .len)
-    (λ c. (wrote-place (c .before .loop .inv) (omega arith), wrote-file (c .before .loop .inv) (omega arith))))
+    (λ c. wrote-all (c .before .loop .inv) (omega arith)))

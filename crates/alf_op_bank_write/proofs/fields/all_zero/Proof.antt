@@ -1,7 +1,7 @@
 -- `alf_op_bank_write::fields::all_zero` meets its contract: the loop stops at the first number that is not zero. Assumes nothing.
-use borrow.Author.Needs.{needs}
 use mathlib.Core.Path.{_≡_}
 use Prim.Native.Nat.{_-_}
+use borrow.Author.Needs.{needs}
 use Rattle.alf_spec.proofs.Scans.{Passed, scans}
 use Rattle.alf_bank.specs.Filters.{shapeOf, countOf}
 use Rattle.alf_bank.specs.Writing.{zeroAt}

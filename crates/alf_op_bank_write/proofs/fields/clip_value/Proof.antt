@@ -1,8 +1,8 @@
 -- `alf_op_bank_write::fields::clip_value` meets its contract. Assumes nothing.
-use borrow.Author.Needs.{needs}
 use native.Mathlib.Omega.{arith}
-use mir.Facts.{toZ-ofZ}
+use borrow.Author.Needs.{needs}
 use lib.Signed.{natAbs-le}
+use mir.Facts.{toZ-ofZ}
 use Rattle.alf_op_bank_write.proofs.FieldBytes.{whole-number}
 use Rattle.alf_op_bank_write.proofs.fields.clip_value.Statement.{statement}
 use Rattle.alf_op_bank_write.proofs.fields.clip_value.Tie as tie

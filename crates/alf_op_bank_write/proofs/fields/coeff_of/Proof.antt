@@ -1,9 +1,9 @@
--- `alf_op_bank_write::fields::coeff_of` meets its contract. Assumes nothing.
-use borrow.Author.Needs.{needs}
+-- `alf_op_bank_write::fields::coeff_of` meets its contract: a coefficient fits a byte. Assumes nothing.
 use mathlib.Core.Path.{_∙_, ap}
+use borrow.Author.Needs.{needs}
 use mir.Syntax.{w16}
-use Rattle.alf_bank.specs.Writing.{byteOf}
 use Rattle.alf_math.proofs.Magnitude.{returned}
+use Rattle.alf_bank.specs.Writing.{byteOf}
 use Rattle.alf_op_bank_write.proofs.fields.coeff_of.Statement.{statement}
 use Rattle.alf_op_bank_write.proofs.fields.coeff_of.Tie as tie
 

@@ -7,6 +7,6 @@ pub second-lead-spec : {M : Type 1} → statement M
 second-lead-spec =
     tie.close
     (tie.spec
-    (λ c. search (second-luma, second-chroma, second-cross))
-    (λ c. search (second-luma, second-chroma, second-cross))
-    (λ c. search (second-luma, second-chroma, second-cross)))
+    (λ c. search second-luma)
+    (λ c. search second-chroma)
+    (λ c. search second-cross))

@@ -1,8 +1,8 @@
 -- `alf_op_bank_write::fields::write_field` meets its contract: each turn writes one byte. Assumes nothing.
-use borrow.Author.Needs.{needs}
 use mathlib.Core.Path.{_≡_}
 use Prim.Native.Nat.{_-_}
 use native.Mathlib.Omega.{arith}
+use borrow.Author.Needs.{needs}
 use lib.ListN.{length}
 use Rattle.alf_lists.proofs.Pasted.{Pasted, paste-none, paste-more, paste-done}
 use Rattle.alf_op_bank_write.specs.FieldBytes.{fieldBytes}
@@ -33,6 +33,6 @@ write-field-spec =
     (λ c. omega arith)
     (λ c. search needs)
     (λ c. search needs)
-    (λ c. (c .before .before .loop .inv .0, paste-more 0 _ (c .before .before .loop .inv .1) (omega arith) (omega arith) (c .field-byte .ensures)))
+    (λ c. let inv = c .before .before .loop .inv in (inv .0, paste-more 0 _ (inv .1) (omega arith) (omega arith) (c .field-byte .ensures)))
     (λ c. c .before .loop .inv .1 .len)
     (λ c. paste-done (c .before .loop .inv .1) (omega arith)))
