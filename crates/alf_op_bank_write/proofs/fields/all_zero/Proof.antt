@@ -1,8 +1,9 @@
 -- `alf_op_bank_write::fields::all_zero` meets its contract: the loop stops at the first number that is not zero. Assumes nothing.
 use mathlib.Core.Path.{_≡_}
 use Prim.Native.Nat.{_-_}
+use native.Mathlib.Omega.{arith}
 use borrow.Author.Needs.{needs}
-use Rattle.alf_spec.proofs.Scans.{Passed, scans}
+use Rattle.alf_spec.proofs.Scans.{Passed, scan-done, scans}
 use Rattle.alf_bank.specs.Filters.{shapeOf, countOf}
 use Rattle.alf_bank.specs.Writing.{zeroAt}
 use Rattle.alf_op_bank_write.proofs.FieldBytes.{zeros-all}
@@ -29,4 +30,4 @@ all-zero-spec =
     (λ c. search needs)
     (λ c. search needs)
     (λ c. (search needs, search scans))
-    (λ c. search (zeros-all, scans) depth 8))
+    (λ c. let inv = c .before .loop .inv in zeros-all _ _ (inv .0) (scan-done (inv .1) (omega arith))))
