@@ -70,14 +70,18 @@ fn show_round_trip() {
     show_again(&file);
 }
 
-// A depth of 8, then what the text says.
-fn show_damaged() {
+// Files with no filter.
+fn show_without_filter() {
     show_file(b"no byte", b"");
     show_file(b"a bit depth alone", b"\x01\x00\x01\x08");
     show_file(b"bit depth 7", b"\x01\x00\x01\x07");
     show_file(b"a field cut short", b"\x01\x00\x01\x08\x04\x00");
     show_file(b"tag 5", b"\x01\x00\x01\x08\x05\x00\x00");
-    show_file(b"length 256 for 1", b"\x01\x01\x00\x08");
+    show_file(b"a second bit depth", b"\x01\x00\x01\x08\x01\x00\x01\x08");
+}
+
+// A bit depth of 8, and Cr's first cross-component filter or one that there is not.
+fn show_cross_component() {
     show_file(
         b"component 2",
         b"\x01\x00\x01\x08\x04\x00\x0a\x00\x02\x00\x01\x00\x00\x00\x00\x00\x00",
@@ -86,7 +90,10 @@ fn show_damaged() {
         b"an all-zero filter",
         b"\x01\x00\x01\x08\x04\x00\x0a\x00\x01\x00\x00\x00\x00\x00\x00\x00\x00",
     );
-    show_file(b"a second bit depth", b"\x01\x00\x01\x08\x01\x00\x01\x08");
+}
+
+// A bit depth of 8, and a chroma alternative with one clip.
+fn show_clips() {
     show_file(
         b"clip 256 of 8 bits",
         b"\x01\x00\x01\x08\x03\x00\x14\x00\x00\x00\x00\x00\x00\x00\x00\x01\x00\x00\x00\x00\x00\x00\x00\x00\x00\x00\x00",
@@ -99,5 +106,7 @@ fn show_damaged() {
 
 pub fn show_banks() {
     show_round_trip();
-    show_damaged();
+    show_without_filter();
+    show_cross_component();
+    show_clips();
 }
