@@ -295,3 +295,16 @@ fn the_c_example_writes_the_pages_worked_file() {
         .collect();
     assert_eq!(bytes, worked_file(&text("docs/bank-files.md")));
 }
+
+/// The drawing has a text of class `b` for each byte.
+#[test]
+fn the_drawing_shows_the_pages_worked_file() {
+    let drawing = text("docs/bank-file.svg");
+    let bytes: Vec<u8> = drawing
+        .split(r#"class="b""#)
+        .skip(1)
+        .map(|rest| rest.split(['>', '<']).nth(1).expect("a text and its byte"))
+        .map(|byte| u8::from_str_radix(byte, 16).unwrap())
+        .collect();
+    assert_eq!(bytes, worked_file(&text("docs/bank-files.md")));
+}
