@@ -1,6 +1,6 @@
 -- What a field is that has no fault, and where a field has none. Assumes nothing.
 use mathlib.Core.Path.{◌≡◌}
-use mathlib.Core.Bool.{true, false, ◌&&◌, not, ◌||◌, or_false}
+use mathlib.Core.Bool.{true, false, ◌&&◌, not, ◌||◌, or-false}
 use mathlib.Core.List.{List}
 use Prim.Native.Nat.{ℕ, ◌+◌, ◌≤◌}
 use native.Mathlib.Omega.{arith}
@@ -34,7 +34,7 @@ module _ (f : List ℕ) where
   -- of tag 1: 1 byte
   pub depth-length : listed f ≡ true → is_depth f ≡ true → length_of f ≡ 1
   unfolding listed is_depth
-  depth-length l e = eqb-true (length_of f) 1 (rw or_false at (rw (eqb-true (tag_of f) 1 e) at l))
+  depth-length l e = eqb-true (length_of f) 1 (rw or-false at (rw (eqb-true (tag_of f) 1 e) at l))
 
   -- of another tag: 2, 3 or 4, with as many bytes as its shape says
   pub filter_length_lem : listed f ≡ true → is_depth f ≡ false

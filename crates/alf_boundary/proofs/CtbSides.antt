@@ -10,12 +10,10 @@ use Rattle.alf_spec.specs.declared.ClipCause.{ClipCause}
 use Rattle.alf_spec.specs.declared.ClipCause.TheVariants.{Open}
 use Rattle.alf_spec.specs.declared.Ctb.{Ctb}
 use Rattle.alf_spec.specs.declared.Grid.{Grid}
-use Rattle.alf_spec.specs.declared.Sides.{Sides}
 use Rattle.alf_spec.specs.Input.{Layout}
-use Rattle.alf_spec.specs.Geometry.{Side, before, after, next, has_next}
+use Rattle.alf_spec.specs.Geometry.{Side, before, after, has_next}
 use Rattle.alf_spec.specs.Boundary.{slice_of, subpic_of, tile_column_of, tile_row_of, tile_disables, slice_disables, subpic_disables, step_cause}
 use Rattle.alf_spec.specs.Boundary.{beside_ctb, stacked_ctb, diagonal_ctb, column_side, row_side, corner_disabled}
-use Rattle.alf_spec.proofs.Tests.{and_same}
 use Rattle.alf_math.specs.Grids.{GridOf}
 use Rattle.alf_math.proofs.Grids.{grid-columns, grid-rows}
 use Rattle.alf_boundary.specs.declared.sides.Origin.{Origin}

@@ -9,7 +9,7 @@ use crate::causes::disables;
 use alf_spec::{Clip, ClipCause, Grid, Picture, Sides};
 
 // What the rules find on one side of a position: a clip position with its cause, or none.
-#[derive(Drop)]
+#[derive(Clone, Copy)]
 pub enum FoundClip {
     At(Clip),
     Nowhere,
@@ -17,7 +17,7 @@ pub enum FoundClip {
 
 // One axis of the picture through one of its CTBs. Columns and rows have an axis each, so that every rule along an axis is one function;
 // the axis's virtual boundaries are passed beside it.
-#[derive(Drop)]
+#[derive(Clone, Copy)]
 pub struct CtbAxis {
     // the picture's samples along it, and a CTB's
     pub size: u32,

@@ -5,7 +5,7 @@ ghost use Rattle.alf_boundary.specs.Memberships.{InTables, membership_at};
 use alf_spec::Ctb;
 
 // The tile, the slice and the subpicture of a CTB, and whether that subpicture's switch is on.
-#[derive(Drop)]
+#[derive(Clone, Copy)]
 pub struct Membership {
     pub tile_column: u8,
     pub tile_row: u8,

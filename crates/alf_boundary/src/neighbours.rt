@@ -6,7 +6,7 @@ use alf_math::grid::previous;
 use alf_spec::{Ctb, Grid};
 
 // The places next to a place along an axis, and whether there are CTBs.
-#[derive(Drop)]
+#[derive(Clone, Copy)]
 struct AxisNeighbours {
     pub has_before: bool,
     pub before: u32,
@@ -16,7 +16,7 @@ struct AxisNeighbours {
 
 // The CTBs across the sides of a CTB, and across the two corners at which slices disable filtering. Where there is none, it is the CTB
 // itself: a step into it is never disabled.
-#[derive(Drop)]
+#[derive(Clone, Copy)]
 pub struct Neighbours {
     pub left: Ctb,
     pub right: Ctb,

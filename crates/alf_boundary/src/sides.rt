@@ -12,7 +12,7 @@ use alf_spec::{ClipCause, Ctb, Grid, Picture, Sides};
 
 // What decides at each side of a CTB: its membership, and the picture's switches for tiles and slices. With them the number of CTBs in a
 // row, by which a neighbour's address is known.
-#[derive(Drop)]
+#[derive(Clone, Copy)]
 struct Origin {
     pub own: Membership,
     pub across_tiles: bool,
@@ -21,7 +21,7 @@ struct Origin {
 }
 
 // Why filtering across the sides of a CTB along one axis is disabled: the side before it, and the side after it.
-#[derive(Drop)]
+#[derive(Clone, Copy)]
 struct AxisCauses {
     pub before: ClipCause,
     pub after: ClipCause,

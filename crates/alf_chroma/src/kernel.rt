@@ -12,7 +12,7 @@ use alf_math::rounding::filtered;
 use alf_taps::add_tap;
 
 // Where the rows of the copy begin that the taps of a row of samples read: its own, those y1 and y2 above it, and those y1 and y2 below.
-#[derive(Drop)]
+#[derive(Clone, Copy)]
 pub struct ChromaStarts {
     pub above2: usize,
     pub above1: usize,

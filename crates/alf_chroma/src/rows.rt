@@ -15,6 +15,7 @@ fn entry(y1: u32, y2: u32, shift: u32) -> ChromaRows
 }
 
 // Table 46: at the line the taps stay in their own row, next to it they reach one row.
+#[tactic(auto, unfolding(alf_spec::specs::Chroma::chroma_rows))]
 fn chroma_rows(line: bool, distance: u32) -> ChromaRows
     ensures { result ≡ chroma_rows line distance }
 {

@@ -1,6 +1,6 @@
 // The class map of a picture: the sides of all CTBs first, then a CTB at a time.
 ghost use Rattle.std.specs.Prelude.{◌≡◌, length};
-ghost use Rattle.alf_spec.specs.Input.{layout_of, Input, classes, classes_input};
+ghost use Rattle.alf_spec.specs.Input.{layout_of, classes, classes_input};
 ghost use Rattle.alf_spec.specs.Process.{class_map};
 ghost use Rattle.alf_spec.specs.Faults.{fault};
 
@@ -24,11 +24,10 @@ pub fn class_map(
     luma: &[u16],
     map: &mut [u8],
 )
-    ghost i: { Input }
-    requires map_value { classes_input (layout_of picture virtual_columns.now virtual_rows.now tile_columns.now tile_rows.now
-        slice_map.now subpic_map.now subpic_across.now) luma.now (length map.old) ≡ i }
-    requires i_value { fault classes i ≡ 0 }
-    ensures { map.new ≡ class_map i.layout i.luma }
+    requires { let i = classes_input (layout_of picture virtual_columns.now virtual_rows.now tile_columns.now tile_rows.now
+        slice_map.now subpic_map.now subpic_across.now) luma.now (length map.old) in fault classes i ≡ 0 }
+    ensures { let i = classes_input (layout_of picture virtual_columns.now virtual_rows.now tile_columns.now tile_rows.now
+        slice_map.now subpic_map.now subpic_across.now) luma.now (length map.old) in map.new ≡ class_map i.layout i.luma }
 {
     let grid = grid(picture);
     let total = grid.columns * grid.rows;

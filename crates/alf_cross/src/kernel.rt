@@ -22,7 +22,7 @@ fn corrected(curr: u16, sum: i32, depth: u32) -> u16
 
 // Where the taps of a row of samples read the split copy: the row y1 above theirs, their own, and those y1 and y2 below, by where each
 // begins; and in each row the columns left of the samples, their own and right of them, by where these begin in it.
-#[derive(Drop)]
+#[derive(Clone, Copy)]
 pub struct CrossStarts {
     pub above1: usize,
     pub here: usize,
@@ -34,7 +34,7 @@ pub struct CrossStarts {
 }
 
 // A row of n chroma samples, which stand in their plane from index `from` on, and what their taps read.
-#[derive(Drop)]
+#[derive(Clone, Copy)]
 pub struct CrossRow {
     pub starts: CrossStarts,
     pub from: usize,

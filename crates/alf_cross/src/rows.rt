@@ -12,6 +12,7 @@ use alf_boundary::clips::line_rule;
 use alf_spec::CrossRows;
 
 // Table 47, by the distance of the luma row from the bottom of its CTB.
+#[tactic(auto, unfolding(alf_spec::specs::CrossComponent::cross_rows))]
 fn cross_rows(line: bool, distance: u32) -> CrossRows
     ensures { result ≡ cross_rows line distance }
 {

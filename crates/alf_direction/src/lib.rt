@@ -1,5 +1,7 @@
 // What decides the class and the transpose of a block, once the sums over its window are known. No number here is wider than 32 bits, and
 // the one multiplication is of 16 bits by 16 (02, card 3); `scripts/class-widths.sh` reads the code for that.
+#![tactic(auto)]
+
 pub mod direction;
 pub mod products;
 mod tables;

@@ -3,7 +3,7 @@
 ghost use Rattle.std.specs.Prelude.{◌≡◌, ◌+◌, ◌*◌, ◌/◌, ◌%◌, ◌^◌, ◌≤◌, ltb};
 
 // A product of two 32-bit numbers, as two words: high * 2^32 + low.
-#[derive(Drop)]
+#[derive(Clone, Copy)]
 struct Product {
     high: u32,
     low: u32,

@@ -19,13 +19,13 @@ or_assoc : (a b c : Bool) → (a || (b || c)) ≡ ((a || b) || c)
 or_assoc true b c = refl
 or_assoc false b c = refl
 
-or_false : (a : Bool) → (a || false) ≡ a
-or_false true = refl
-or_false false = refl
+or-false : (a : Bool) → (a || false) ≡ a
+or-false true = refl
+or-false false = refl
 
 elem-last : (k : ℕ) (xs : List ℕ) (y : ℕ) → elem k (xs ++ (y ∷ [])) ≡ (elem k xs || eqb y k)
 unfolding elem
-elem-last k [] y = or_false (eqb k y) ∙ eqb_swap k y
+elem-last k [] y = or-false (eqb k y) ∙ eqb_swap k y
 elem-last k (x ∷ xs) y = ap (λ (b : Bool). eqb k x || b) (elem-last k xs y) ∙ or_assoc (eqb k x) (elem k xs) (eqb y k)
 
 pub none_listed : (k : ℕ) → is_listed [] k ≡ false

@@ -40,13 +40,14 @@ fn filter_address(
     taps: &mut [i16],
     output: &mut [u16],
 )
-    ghost t: { FilterTables }
-    requires orders_value { given_tables picture grid virtual_columns.now virtual_rows.now slice_map.now slice_params.now
-        bank.now ctb_params.now fixed_filters.now fixed_map.now luma.now chroma.now orders.now ≡ t }
-    requires tables_accepted { (TablesAccepted filter t) × (k < grid.columns * grid.rows) × (k < length sides.now) × (k < length marks.now)
+    requires { let t = given_tables picture grid virtual_columns.now virtual_rows.now slice_map.now slice_params.now
+        bank.now ctb_params.now fixed_filters.now fixed_map.now luma.now chroma.now orders.now in
+        (TablesAccepted filter t) × (k < grid.columns * grid.rows) × (k < length sides.now) × (k < length marks.now)
         × (MarksOn filter ctb_params.now marks.now)
         × (FilterRooms filter picture (length copy.old) (length differences.old) taps.old (length output.old)) }
-    ensures { ((i : Input) → TablesIn filter i t → SidesPlanned i.layout sides.now
+    ensures { let t = given_tables picture grid virtual_columns.now virtual_rows.now slice_map.now slice_params.now
+        bank.now ctb_params.now fixed_filters.now fixed_map.now luma.now chroma.now orders.now in
+        ((i : Input) → TablesIn filter i t → SidesPlanned i.layout sides.now
         → CtbFiltered filter i marks.now k output.old output.new) × (TapNumbers taps.new) }
 {
     let at = k as usize;
@@ -114,13 +115,14 @@ pub(crate) fn filter_marked(
     marks: &[u8],
     output: &mut [u16],
 )
-    ghost t: { FilterTables }
-    requires orders_value { given_tables picture grid virtual_columns.now virtual_rows.now slice_map.now slice_params.now
-        bank.now ctb_params.now fixed_filters.now fixed_map.now luma.now chroma.now orders.now ≡ t }
-    requires tables_accepted { (TablesAccepted filter t) × (length sides.now ≡ 16384) × (length marks.now ≡ 16384)
+    requires { let t = given_tables picture grid virtual_columns.now virtual_rows.now slice_map.now slice_params.now
+        bank.now ctb_params.now fixed_filters.now fixed_map.now luma.now chroma.now orders.now in
+        (TablesAccepted filter t) × (length sides.now ≡ 16384) × (length marks.now ≡ 16384)
         × (MarksOn filter ctb_params.now marks.now)
         × (length output.old ≡ (picture.width / column_ratio filter picture) * (picture.height / row_ratio filter picture)) }
-    ensures { (i : Input) → TablesIn filter i t → SidesPlanned i.layout sides.now
+    ensures { let t = given_tables picture grid virtual_columns.now virtual_rows.now slice_map.now slice_params.now
+        bank.now ctb_params.now fixed_filters.now fixed_map.now luma.now chroma.now orders.now in
+        (i : Input) → TablesIn filter i t → SidesPlanned i.layout sides.now
         → MarkedFiltered filter i marks.now output.old output.new }
 {
     let total = grid.columns * grid.rows;

@@ -1,6 +1,6 @@
 // A whole plane: what depends on a CTB alone is planned, the output is the input, and then each CTB that is marked is filtered.
 ghost use Rattle.std.specs.Prelude.{◌≡◌, length};
-ghost use Rattle.alf_spec.specs.Input.{layout_of, Input, input_of};
+ghost use Rattle.alf_spec.specs.Input.{layout_of, input_of};
 ghost use Rattle.alf_spec.specs.Faults.{fault};
 ghost use Rattle.alf_spec.specs.Process.{result_of};
 ghost use Rattle.alf_spec.specs.Filters.{operation_of};
@@ -17,7 +17,7 @@ use alf_spec::{Filter, Picture};
 // A plane over another of its size.
 fn copy_plane(plane: &[u16], output: &mut [u16])
     requires { length plane.now ≡ length output.old }
-    ensures* { λ _. ⌜ output.new ≡ plane.now ⌝ }
+    ensures { output.new ≡ plane.now }
 {
     copy_run(plane, 0, plane.len(), output, 0);
 }
@@ -25,7 +25,7 @@ fn copy_plane(plane: &[u16], output: &mut [u16])
 // The plane that a filter filters.
 fn copy_input(filter: Filter, luma: &[u16], chroma: &[u16], output: &mut [u16])
     requires { length (plane_filtered filter luma.now chroma.now) ≡ length output.old }
-    ensures* { λ _. ⌜ output.new ≡ plane_filtered filter luma.now chroma.now ⌝ }
+    ensures { output.new ≡ plane_filtered filter luma.now chroma.now }
 {
     match filter {
         Filter::Luma => copy_plane(luma, output),
@@ -55,12 +55,14 @@ pub fn filter_plane(
     chroma: &[u16],
     output: &mut [u16],
 )
-    ghost { Input }
-    requires* output_value { λ i. ⌜ input_of (layout_of picture virtual_columns.now virtual_rows.now tile_columns.now tile_rows.now
+    requires { let i = input_of (layout_of picture virtual_columns.now virtual_rows.now tile_columns.now tile_rows.now
         slice_map.now subpic_map.now subpic_across.now) luma.now chroma.now slice_params.now bank.now
-        ctb_params.now ctb_list.now fixed_filters.now fixed_map.now (length output.old) ≡ i ⌝ }
-    requires* i_value { λ i. ⌜ fault (operation_of filter) i ≡ 0 ⌝ }
-    ensures* { λ i _. ⌜ output.new ≡ result_of (operation_of filter) i ⌝ }
+        ctb_params.now ctb_list.now fixed_filters.now fixed_map.now (length output.old) in
+        fault (operation_of filter) i ≡ 0 }
+    ensures { let i = input_of (layout_of picture virtual_columns.now virtual_rows.now tile_columns.now tile_rows.now
+        slice_map.now subpic_map.now subpic_across.now) luma.now chroma.now slice_params.now bank.now
+        ctb_params.now ctb_list.now fixed_filters.now fixed_map.now (length output.old) in
+        output.new ≡ result_of (operation_of filter) i }
 {
     let grid = grid(picture);
     let mut sides: [u16; CTBS] = [0; CTBS];

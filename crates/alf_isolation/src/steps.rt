@@ -8,7 +8,7 @@ use alf_boundary::causes::disables;
 use alf_spec::Sides;
 
 // The sides and corners of a block, or of a row of blocks in a CTB: true where no step across is open.
-#[derive(Drop)]
+#[derive(Clone, Copy)]
 pub struct BlockSides {
     pub left: bool,
     pub right: bool,
@@ -19,7 +19,7 @@ pub struct BlockSides {
 }
 
 // The two ends of a block along one axis: whether no step across is open, and whether the CTB ends there too.
-#[derive(Drop)]
+#[derive(Clone, Copy)]
 struct BlockEnds {
     pub closed_before: bool,
     pub closed_after: bool,

@@ -1,5 +1,7 @@
 // Lists that are written part by part: what a loop has written so far, and what the whole list then holds (specs/, proofs/). All loops of
 // the filters that write a plane, a map or a table stand on these laws; they know nothing of pictures.
+#![tactic(auto)]
+
 ghost use Rattle.std.specs.Prelude.{◌+◌, ◌≤◌, length, pos};
 ghost use Rattle.alf_lists.specs.Regions.{between};
 ghost use Rattle.alf_lists.specs.Filled.{Filled, same};

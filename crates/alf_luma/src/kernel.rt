@@ -15,7 +15,7 @@ use alf_math::rounding::filtered;
 use alf_taps::add_tap;
 
 // Where the rows of the copy begin that the taps of a row of samples read: its own, and three above and below it.
-#[derive(Drop)]
+#[derive(Clone, Copy)]
 pub struct Starts {
     pub above3: usize,
     pub above2: usize,

@@ -1,4 +1,6 @@
 // The luma filter of a piece of a CTB: its classes, the filters of its blocks spread over the columns, and its samples, row by row.
+#![tactic(auto)]
+
 mod kernel;
 mod piece;
 mod rows;

@@ -5,6 +5,7 @@ ghost use Rattle.alf_spec.specs.Luma.{luma_rows};
 use alf_spec::LumaRows;
 
 // Table 45, by the distance of a row from the CTB's bottom, where the line rule is on.
+#[tactic(auto, unfolding(alf_spec::specs::Luma::luma_rows))]
 fn line_rows(distance: u32) -> LumaRows
     ensures { result ≡ luma_rows true distance }
 {
@@ -37,6 +38,7 @@ fn line_rows(distance: u32) -> LumaRows
 }
 
 // Table 45
+#[tactic(auto, unfolding(alf_spec::specs::Luma::luma_rows))]
 pub(crate) fn luma_rows(line: bool, distance: u32) -> LumaRows
     ensures { result ≡ luma_rows line distance }
 {

@@ -1,4 +1,6 @@
 // Reading a bank file (02, card 2): it is judged whole, field by field, before a number is stored.
+#![tactic(auto)]
+
 mod fields;
 mod fill;
 mod judge;
@@ -17,7 +19,7 @@ use judge::{clip_limit, first_fault};
 use reader::step_in;
 
 // What stands at a position of a file after tag 1.
-#[derive(Drop)]
+#[derive(Clone, Copy)]
 pub enum Step {
     // Nothing: the file ends.
     End,

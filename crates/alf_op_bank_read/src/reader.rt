@@ -7,7 +7,7 @@ use crate::Step;
 use crate::judge::step_at;
 
 // A bank file that is being read, and a position in it.
-#[derive(Drop)]
+#[derive(Clone, Copy)]
 pub struct BankReader<'a> {
     pub file: &'a [u8],
     pub at: usize,

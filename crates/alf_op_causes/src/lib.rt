@@ -1,4 +1,6 @@
 // The causes at the four sides of a luma sample (02, card 1).
+#![tactic(auto)]
+
 mod causes;
 
 ghost use Rattle.std.specs.Prelude.{◌≡◌, true};

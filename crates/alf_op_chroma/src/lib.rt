@@ -1,4 +1,6 @@
 // The chroma filter of a picture.
+#![tactic(auto)]
+
 ghost use Rattle.std.specs.Prelude.{length};
 ghost use Rattle.alf_spec.specs.Input.{chroma as chroma_of, layout_of, chroma_input};
 ghost use Rattle.alf_spec.specs.Answers.{number};

@@ -1,4 +1,6 @@
 // The class map: the class and the transpose of every 4 by 4 luma block.
+#![tactic(auto)]
+
 ghost use Rattle.std.specs.Prelude.{length};
 ghost use Rattle.alf_spec.specs.Input.{classes as classes_of, layout_of, classes_input};
 ghost use Rattle.alf_spec.specs.Answers.{number};

@@ -1,4 +1,6 @@
 // The cross-component filter of a picture: the correction of chroma from luma.
+#![tactic(auto)]
+
 ghost use Rattle.std.specs.Prelude.{length};
 ghost use Rattle.alf_spec.specs.Input.{cross_component, layout_of, cross_input};
 ghost use Rattle.alf_spec.specs.Answers.{number};

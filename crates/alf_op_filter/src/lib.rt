@@ -1,4 +1,6 @@
 // A filter of a picture: its input is judged, then its plane is filtered. The three filters are this one function.
+#![tactic(auto)]
+
 ghost use Rattle.std.specs.Prelude.{length};
 ghost use Rattle.alf_spec.specs.Input.{layout_of, input_of};
 ghost use Rattle.alf_spec.specs.Filters.{operation_of};

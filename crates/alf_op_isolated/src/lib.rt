@@ -1,4 +1,6 @@
 // The isolation test (01: shut test of an area).
+#![tactic(auto)]
+
 ghost use Rattle.std.specs.Prelude.{◌≡◌, false};
 ghost use Rattle.alf_spec.specs.Input.{layout_of};
 ghost use Rattle.alf_spec.specs.Faults.{isolation_fault};

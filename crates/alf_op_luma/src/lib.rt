@@ -1,4 +1,6 @@
 // The luma filter of a picture.
+#![tactic(auto)]
+
 ghost use Rattle.std.specs.Prelude.{length};
 ghost use Rattle.alf_spec.specs.Input.{luma as luma_of, layout_of, luma_input};
 ghost use Rattle.alf_spec.specs.Answers.{number};

@@ -66,7 +66,7 @@ pub fn load_fixed(
 }
 
 // A run of an APS's numbers. Of the eleven numbers of a slice, number `name` says which APS.
-#[derive(Drop)]
+#[derive(Clone, Copy)]
 pub struct ApsRun {
     pub name: usize,
     pub first: usize,

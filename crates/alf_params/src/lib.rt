@@ -1,4 +1,6 @@
 // What the tables say of one CTB: whether each filter is on, and the numbers of its filter.
+#![tactic(auto)]
+
 mod entries;
 mod filters;
 mod switches;

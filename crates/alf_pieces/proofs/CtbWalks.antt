@@ -1,7 +1,7 @@
 -- A walk over all pieces of a CTB: what it has passed grows by one piece, and in the end it is the CTB. Assumes nothing.
 use mathlib.Core.Path.{◌≡◌, refl, sym, subst}
 use mathlib.Core.Logic.{◌⊎◌, inl, inr}
-use mathlib.Core.Bool.{Bool, true, false, ◌||◌, or_false, true≢false}
+use mathlib.Core.Bool.{Bool, true, false, ◌||◌, or-false, true≢false}
 use mathlib.Core.List.{List}
 use Prim.Native.Nat.{ℕ, zero, suc, ◌+◌, ◌-◌, ◌*◌, ◌/◌, ◌≤◌, ◌<◌}
 use native.Mathlib.Nat.{div-zero, div-mul-le_self, le-div_iff_mul-le}
@@ -41,7 +41,7 @@ module _ (width l r t x y y' k : ℕ) (low : l ≤ x) where
   grow_below x' y'' high top down none =
       rw (
         rect_none width l x' y' y'' k none,
-        or_false (in_rect width l r t y' k),
+        or-false (in_rect width l r t y' k),
         rect_stacked width l r t y y' top down k,
         rect_beside width l x r y y' low high k,
       ) (or_assoc (in_rect width l r t y k) (in_rect width l x y y' k) (in_rect width x r y y' k))
@@ -98,7 +98,7 @@ module _ {a : CtbAxis} {virtual_columns : List ℕ} {b : CtbAxis} {virtual_rows 
       let none = rect_none width (a.place * a.ctb / column_ratio) (w.columns.start / column_ratio) (limit_along b / row_ratio)
       (limit_along b / row_ratio) in
       paint_is (paint_same (paint_of so_far)
-      (λ k h. sym (rw (end.1, end.0) (rw (none k (inr (omega arith))) (or_false _)))) (λ k h t. refl))
+      (λ k h. sym (rw (end.1, end.0) (rw (none k (inr (omega arith))) (or-false _)))) (λ k h t. refl))
 
   -- before the first piece
   pub passed_none : (width column_ratio row_ratio : ℕ) (value : ℕ → ℕ) (old : List ℕ) → w.columns.start ≡ a.place * a.ctb

@@ -86,7 +86,7 @@ pub fn copy_run(plane: &[u16], from: usize, n: usize, copy: &mut [u16], at: usiz
 
 // What a row of the copy holds: the plane's row that begins at index `row`, from 3 columns before column `start` on, where columns are held
 // to those from `lowest` to `limit`.
-#[derive(Drop)]
+#[derive(Clone, Copy)]
 pub struct RowRange {
     pub row: usize,
     pub start: usize,

@@ -11,7 +11,7 @@ use alf_boundary::clips::{CtbAxis, FoundClip, ctb_start, find_clip};
 use alf_math::grid::previous;
 
 // A piece along an axis, in the plane's own samples.
-#[derive(Drop)]
+#[derive(Clone, Copy)]
 pub struct Piece {
     // its first sample, and the first past it
     pub start: u32,

@@ -6,7 +6,7 @@ use crate::pieces::{Piece, ctb_limit, piece_at};
 use alf_boundary::clips::{CtbAxis, ctb_start};
 
 // Where a walk stands: at a piece with these columns and rows, where there is one: else the walk is over.
-#[derive(Drop)]
+#[derive(Clone, Copy)]
 pub struct CtbWalk {
     pub columns: Piece,
     pub rows: Piece,

@@ -1,4 +1,6 @@
 // What the example programs print with: text, numbers, planes, class maps and answers.
+#![tactic(auto)]
+
 use alf_spec::{ClipCause, Isolation};
 use libc::STDOUT_FILENO;
 

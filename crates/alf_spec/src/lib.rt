@@ -1,7 +1,8 @@
 // The types that callers of the operations see, and those that code and definitions share.
+#![tactic(auto)]
 
 // A picture's sizes and switches (01: frame). A switch that is true filters across.
-#[derive(Drop)]
+#[derive(Clone, Copy)]
 pub struct Picture {
     pub width: u32,
     pub height: u32,
@@ -18,7 +19,7 @@ pub struct Picture {
 }
 
 // Why an input is rejected, in the order of the numbers 1 to 14 of 01's table and of those that 02's cards add.
-#[derive(Drop)]
+#[derive(Clone, Copy)]
 pub enum Fault {
     PictureSize,
     CtbSize,
@@ -53,7 +54,7 @@ pub enum Fault {
 }
 
 // Which filter; a component is 0 (Cb) or 1 (Cr).
-#[derive(Drop)]
+#[derive(Clone, Copy)]
 pub enum Filter {
     Luma,
     Chroma(u8),
@@ -61,14 +62,14 @@ pub enum Filter {
 }
 
 // The answer of the class map and of the three filters.
-#[derive(Drop)]
+#[derive(Clone, Copy)]
 pub enum Answer {
     Accepted,
     Rejected(Fault),
 }
 
 // The answer of the isolation test (01: shut, not shut).
-#[derive(Drop)]
+#[derive(Clone, Copy)]
 pub enum Isolation {
     Isolated,
     NotIsolated,
@@ -77,7 +78,7 @@ pub enum Isolation {
 
 // Why filtering stops at a side of a luma sample, or of a CTB (02, card 1: cause), in the order of the numbers 0 to 5. A CTB's side is
 // open, or has one of the last three.
-#[derive(Drop)]
+#[derive(Clone, Copy)]
 pub enum ClipCause {
     Open,
     // 01: the line
@@ -89,14 +90,14 @@ pub enum ClipCause {
 }
 
 // A clip position (01: edge) of a luma sample, with its cause.
-#[derive(Drop)]
+#[derive(Clone, Copy)]
 pub struct Clip {
     pub cause: ClipCause,
     pub position: u32,
 }
 
 // The causes on the four sides of a luma sample.
-#[derive(Drop)]
+#[derive(Clone, Copy)]
 pub struct SideCauses {
     pub top: ClipCause,
     pub bottom: ClipCause,
@@ -105,14 +106,14 @@ pub struct SideCauses {
 }
 
 // The answer of the operation that names them.
-#[derive(Drop)]
+#[derive(Clone, Copy)]
 pub enum ClipCauses {
     Named(SideCauses),
     Rejected(Fault),
 }
 
 // A picture's CTB grid: the side of a CTB in luma samples, and how many CTBs there are in a row and in a column.
-#[derive(Drop)]
+#[derive(Clone, Copy)]
 pub struct Grid {
     pub ctb: u32,
     pub columns: u32,
@@ -120,7 +121,7 @@ pub struct Grid {
 }
 
 // A CTB by its place in the grid.
-#[derive(Drop)]
+#[derive(Clone, Copy)]
 pub struct Ctb {
     pub column: u32,
     pub row: u32,
@@ -128,7 +129,7 @@ pub struct Ctb {
 
 // A CTB's sides, by why filtering across them is disabled (01: closed), and its corners: true where it is. The corners are judged by slices
 // alone.
-#[derive(Drop)]
+#[derive(Clone, Copy)]
 pub struct Sides {
     pub left: ClipCause,
     pub right: ClipCause,
@@ -141,7 +142,7 @@ pub struct Sides {
 }
 
 // The rows of a class window that count, as the first (row r stands at offset r − 3) and how many, and the activity factor.
-#[derive(Drop)]
+#[derive(Clone, Copy)]
 pub struct WindowRows {
     pub first: u32,
     pub count: u32,
@@ -149,7 +150,7 @@ pub struct WindowRows {
 }
 
 // The sums of second differences over a class window: vertical, horizontal, and along the two diagonals.
-#[derive(Drop)]
+#[derive(Clone, Copy)]
 pub struct Sums {
     pub v: u32,
     pub h: u32,
@@ -158,7 +159,7 @@ pub struct Sums {
 }
 
 // Two of these sums whose directions cross: the larger, the smaller, and the larger one's direction.
-#[derive(Drop)]
+#[derive(Clone, Copy)]
 pub struct Gradient {
     pub large: u32,
     pub small: u32,
@@ -166,14 +167,14 @@ pub struct Gradient {
 }
 
 // The filter index (class) and the transpose of a 4 by 4 block.
-#[derive(Drop)]
+#[derive(Clone, Copy)]
 pub struct Class {
     pub filter: u32,
     pub transpose: u32,
 }
 
 // How far above and below its row a luma sample's taps read, and the shift of their sum (Table 45).
-#[derive(Drop)]
+#[derive(Clone, Copy)]
 pub struct LumaRows {
     pub y1: u32,
     pub y2: u32,
@@ -182,7 +183,7 @@ pub struct LumaRows {
 }
 
 // The same for chroma (Table 46).
-#[derive(Drop)]
+#[derive(Clone, Copy)]
 pub struct ChromaRows {
     pub y1: u32,
     pub y2: u32,
@@ -190,7 +191,7 @@ pub struct ChromaRows {
 }
 
 // The same for the cross-component filter (Table 47): y1 above and below, y2 below only. Its shift is always 7.
-#[derive(Drop)]
+#[derive(Clone, Copy)]
 pub struct CrossRows {
     pub y1: u32,
     pub y2: u32,

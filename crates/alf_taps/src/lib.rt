@@ -2,6 +2,8 @@
 //   tap = f * ( Clip3( −c, c, plus − curr ) + Clip3( −c, c, minus − curr ) )
 // A filter's numbers are spread over the columns of a row beforehand, so that a
 // loop over the columns reads one coefficient and one clip for each tap and sample, and vectors hold eight columns.
+#![tactic(auto)]
+
 ghost use Rattle.std.specs.Prelude.{◌≡◌, ◌+◌, ◌*◌, ◌^◌, ◌≤◌, ◌<◌, length, get_or, pos, nat_abs, ◌+ℤ◌};
 ghost use Rattle.alf_spec.specs.Arithmetic.{tap as tap_of};
 ghost use Rattle.alf_taps.specs.Spread.{clips_at, TapNumbers};

@@ -5,7 +5,7 @@ ghost use Rattle.alf_spec.specs.Faults.{slice_corner, subpic_corner, corner_at, 
 ghost use Rattle.alf_validate_layout.specs.Rules.{rule_of};
 
 // Whose rule: that of the slice map or of the subpicture map.
-#[derive(Drop)]
+#[derive(Clone, Copy)]
 pub enum CornerRule {
     Slices,
     Subpictures,

@@ -1,6 +1,8 @@
 // Names the filters of a bank file for which the cross-component filter refuses its bank (02, card 6): a line for each filter with a
 // coefficient that H.266 can't send, in file order, with its APS id, its component and its number among the component's filters. The file
 // comes on standard input; one that is no bank file is answered with `refused` and the number.
+#![tactic(auto)]
+
 use alf::{fault_number, next_offender, read_bank};
 use alf_bank::BankRead;
 use alf_cross_coeffs::{CrossFilter, Offender};

@@ -1,5 +1,7 @@
 // The direction test under C names, for the host's tests alone, which hold it against a wide multiplication
 // (host/compare/tests/direction.rs). The C interface of the library is alf_c.
+#![tactic(auto)]
+
 ghost use Rattle.std.specs.Prelude.{◌≡◌, cond, ◌*◌, ltb};
 ghost use Rattle.alf_spec.specs.Classes.{class_of_sums};
 ghost use Rattle.alf_spec.specs.Process.{class_number};

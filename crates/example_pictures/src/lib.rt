@@ -1,4 +1,6 @@
 // What the example programs run the operations on: small pictures, their layouts, filters and parameters.
+#![tactic(auto)]
+
 pub mod drawing;
 pub mod layout;
 pub mod tables;

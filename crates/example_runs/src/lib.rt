@@ -1,4 +1,6 @@
 // Every operation on the example picture, and what it leaves, for the example programs.
+#![tactic(auto)]
+
 use alf::{isolation_number, number};
 use alf_print::{print, print_answer, print_isolation, print_map, print_plane};
 use alf_spec::Picture;

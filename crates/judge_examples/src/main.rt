@@ -1,5 +1,6 @@
 // Runs paper 01's examples of judging and of the isolation test, an input for each number of its table and for what shares a number, the
 // causes at the sides of a few samples, and files of banks.
+#![tactic(auto)]
 
 mod banks;
 mod causes;

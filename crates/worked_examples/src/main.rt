@@ -1,5 +1,7 @@
 // Runs the worked examples P1 to P12 of paper 01 on the proved leaves, one line each; behind P8 the largest sums, for card 3, and P9 also
 // with the line of card 4.
+#![tactic(auto)]
+
 mod classes;
 mod positions;
 

@@ -9,12 +9,12 @@ use Rattle.alf_op_bank_read.proofs.Steps.{loop_end, loop_fault, loop_left, loop_
 use Rattle.alf_op_bank_read.proofs.filters_fault.Statement.{statement}
 use Rattle.alf_op_bank_read.proofs.filters_fault.Tie as tie
 
-abbrev invariant-loop : tie.invariant-loop
+abbrev invariant-loop : tie.invariant-loop-fault
 invariant-loop file limit at₀ from₀ at from =
     (at ≤ length file)
     × (filters_fault limit from (fields (drop at file) 0) ≡ filters_fault limit 0 (fields (drop 4 file) 0))
 
-abbrev decreases-loop : tie.decreases-loop
+abbrev decreases-loop : tie.decreases-loop-fault
 decreases-loop file limit at₀ from₀ at from = length file - at
 
 pub filters_fault_spec : {M : Type 1} → statement M

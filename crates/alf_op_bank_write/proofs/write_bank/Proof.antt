@@ -13,55 +13,55 @@ use Rattle.alf_op_bank_write.proofs.Files.{write_room, write_ready, write_length
 use Rattle.alf_op_bank_write.proofs.write_bank.Statement.{statement}
 use Rattle.alf_op_bank_write.proofs.write_bank.Tie as tie
 
-rejected : tie.Need-returns
+rejected : tie.Need-returns-in-Rejected
 rejected c =
-    let judged : tie.After-judge-bank = search rules in
-    let answer = judged.judge-bank in
-    let told = c.before.answer.given.1 in
+    let judged : tie.After-judge_bank-answer = search rules in
+    let answer = judged.judge_bank-answer in
+    let told = c.in-Rejected.is in
     let number = (stays answer.result answer.ensures {A = ℕ} told 0 {old = 0}).0 in
     (number, (stays answer.result answer.ensures told _).1, (stays answer.result answer.ensures told _).1)
 
 -- what the function is given
-abbrev start : tie.After-judge-bank → tie.Start
+abbrev start : tie.After-judge_bank-answer → tie.Start
 start c = c.before.before
 
 -- the judge accepts
-accepted : (c : tie.After-judge-bank) → c.judge-bank.result ≡ Accepted
-    → write_fault (start c).args.bit-depth (start c).args.bank.now (length (start c).args.file.now) ≡ 0
-accepted c told = accepts c.judge-bank.result c.judge-bank.ensures told
+accepted : (c : tie.After-judge_bank-answer) → c.judge_bank-answer.result ≡ Accepted
+    → write_fault (start c).args.bit_depth (start c).args.bank.now (length (start c).args.file.now) ≡ 0
+accepted c told = accepts c.judge_bank-answer.result c.judge_bank-answer.ensures told
 
-room : tie.Need-write-depth-requires
+room : tie.Need-write_depth-requires
 room c κs =
-    let judged : tie.After-judge-bank = search rules in
-    let told : tie.After-enum-told = search rules in
-    let r = write_room _ _ _ (accepted judged told.enum_told.given.1) in
+    let judged : tie.After-judge_bank-answer = search rules in
+    let told : tie.In_default = search rules in
+    let r = write_room _ _ _ (accepted judged told.in_default.is) in
     omega arith
 
-ready : tie.Need-write-filters-requires
+ready : tie.Need-write_filters-length-requires
 ready c κs =
-    let judged : tie.After-judge-bank = search rules in
-    let told : tie.After-enum-told = search rules in
-    let begun : tie.After-write-depth = search rules in
-    let ok = accepted judged told.enum_told.given.1 in
-    (write_ready _ _ _ ok, mid_long _ _ _ ok _ refl begun.write-depth.ensures)
+    let judged : tie.After-judge_bank-answer = search rules in
+    let told : tie.In_default = search rules in
+    let begun : tie.After-write_depth = search rules in
+    let ok = accepted judged told.in_default.is in
+    (write_ready _ _ _ ok, mid_long _ _ _ ok _ refl begun.write_depth.ensures)
 
-fits : tie.Need-overflow-cast-t13
+fits : tie.Need-overflow_cast-result
 fits c =
-    let judged : tie.After-judge-bank = search rules in
-    let told : tie.After-enum-told = search rules in
-    let wrote : tie.After-write-filters = search rules in
-    record { fits = write_fits _ _ _ (accepted judged told.enum_told.given.1) wrote.write-filters.ensures.0 }
+    let judged : tie.After-judge_bank-answer = search rules in
+    let told : tie.In_default = search rules in
+    let wrote : tie.After-write_filters-length = search rules in
+    record { fits = write_fits _ _ _ (accepted judged told.in_default.is) wrote.write_filters-length.ensures.0 }
 
-done : tie.Need-returns-2
+done : tie.Need-returns
 done c =
-    let judged : tie.After-judge-bank = search rules in
-    let told : tie.After-enum-told = search rules in
-    let begun : tie.After-write-depth = search rules in
-    let wrote : tie.After-write-filters = search rules in
-    let ok = accepted judged told.enum_told.given.1 in (
+    let judged : tie.After-judge_bank-answer = search rules in
+    let told : tie.In_default = search rules in
+    let begun : tie.After-write_depth = search rules in
+    let wrote : tie.After-write_filters-length = search rules in
+    let ok = accepted judged told.in_default.is in (
       sym ok,
-      kept_new (sym ok) none (ap some (write_length _ _ _ ok wrote.write-filters.ensures.0)),
-      kept_new (sym ok) _ (write_file _ _ _ ok _ refl begun.write-depth.ensures wrote.write-filters.ensures.1),
+      kept_new (sym ok) none (ap some (write_length _ _ _ ok wrote.write_filters-length.ensures.0)),
+      kept_new (sym ok) _ (write_file _ _ _ ok _ refl begun.write_depth.ensures wrote.write_filters-length.ensures.1),
     )
 
 pub write_bank_spec : {M : Type 1} → statement M

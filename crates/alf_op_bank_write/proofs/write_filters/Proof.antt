@@ -6,26 +6,26 @@ use Rattle.alf_op_bank_write.proofs.Files.{Progress, wrote_none, wrote_room, wro
 use Rattle.alf_op_bank_write.proofs.write_filters.Statement.{statement}
 use Rattle.alf_op_bank_write.proofs.write_filters.Tie as tie
 
-abbrev invariant-loop : tie.invariant-loop
+abbrev invariant-loop : tie.invariant-loop-k
 invariant-loop bank file₀ at₀ k₀ file at k = Progress bank file₀ k at file
 
-abbrev decreases-loop : tie.decreases-loop
+abbrev decreases-loop : tie.decreases-loop-k
 decreases-loop bank file₀ at₀ k₀ file at k = 328 - k
 
 -- the bank's filters can be written, and the buffer is long enough
-given : tie.Need-write-filter-requires invariant-loop decreases-loop
+given : tie.Need-write_filter-at-requires invariant-loop decreases-loop
 given c κs =
     let s : tie.Start invariant-loop decreases-loop = search rules in
-    let turn : tie.In-loop invariant-loop decreases-loop = search rules in
-    let loop = turn.before.loop in
-    (omega arith, s.pre.0 loop.k (omega arith), wrote_room s.pre.1 loop.inv (omega arith))
+    let turn : tie.In-loop-k invariant-loop decreases-loop = search rules in
+    let loop = turn.before.loop-k in
+    (omega arith, s.requires.0 loop.k (omega arith), wrote_room s.requires.1 loop.invariant (omega arith))
 
-again : tie.Need-loop-preserved invariant-loop decreases-loop
+again : tie.Need-loop-k-preserved invariant-loop decreases-loop
 again c =
     let s : tie.Start invariant-loop decreases-loop = search rules in
-    let turn : tie.In-loop invariant-loop decreases-loop = search rules in
-    let wrote : tie.After-write-filter invariant-loop decreases-loop = search rules in
-    wrote_more s.pre.1 turn.before.loop.inv (omega arith) wrote.write-filter.ensures.0 wrote.write-filter.ensures.1
+    let turn : tie.In-loop-k invariant-loop decreases-loop = search rules in
+    let wrote : tie.After-write_filter-at invariant-loop decreases-loop = search rules in
+    wrote_more s.requires.1 turn.before.loop-k.invariant (omega arith) wrote.write_filter-at.ensures.0 wrote.write_filter-at.ensures.1
 
 pub write_filters_spec : {M : Type 1} → statement M
 write_filters_spec =
@@ -38,5 +38,5 @@ write_filters_spec =
     (λ c. search rules)
     (λ c. search rules)
     again
-    (λ c. c.before.loop.invariant.len)
-    (λ c. wrote_all c.before.loop.invariant (omega arith)))
+    (λ c. c.before.loop-k.invariant.len)
+    (λ c. wrote_all c.before.loop-k.invariant (omega arith)))

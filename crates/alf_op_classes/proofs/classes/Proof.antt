@@ -6,26 +6,26 @@ use Rattle.alf_op_classes.proofs.classes.Statement.{statement}
 use Rattle.alf_op_classes.proofs.classes.Tie as tie
 
 -- the judge rejects: its answer is handed on, and the output stays
-rejected : tie.Need-returns
+rejected : tie.Need-returns-in_default
 rejected c =
-    let judged = c.before.before.judge-classes in
-    (judged.ensures, (stays judged.result judged.ensures c.enum-told2.given.1 _).1)
+    let judged = c.before.judge_classes-answer in
+    (judged.ensures, (stays judged.result judged.ensures c.in_default.is _).1)
 
 -- the judge accepts, which is what the work asks
-asked : tie.Need-class-map-requires
+asked : tie.Need-class_map-requires
 asked c κs =
-    let judged : tie.After-judge-classes = search rules in
-    let told : tie.After-enum-told = search rules in
-    accepts judged.judge-classes.result judged.judge-classes.ensures told.enum_told.given.1
+    let judged : tie.After-judge_classes-answer = search rules in
+    let told : tie.In-Accepted = search rules in
+    accepts judged.judge_classes-answer.result judged.judge_classes-answer.ensures told.in-Accepted.is
 
 -- the work is done
-worked : tie.Need-returns-2
+worked : tie.Need-returns
 unfolding result_of
 worked c =
-    let judged : tie.After-judge-classes = search rules in
-    let told : tie.After-enum-told = search rules in
-    let done = c.before.before.class-map in
-    written judged.judge-classes.result judged.judge-classes.ensures told.enum_told.given.1 _ done.ensures
+    let judged : tie.After-judge_classes-answer = search rules in
+    let told : tie.In-Accepted = search rules in
+    let done = c.before.before.class_map in
+    written judged.judge_classes-answer.result judged.judge_classes-answer.ensures told.in-Accepted.is _ done.ensures
 
 pub classes_spec : {M : Type 1} → statement M
 classes_spec =

@@ -5,25 +5,25 @@ use Rattle.alf_op_filter.proofs.filter_picture.Statement.{statement}
 use Rattle.alf_op_filter.proofs.filter_picture.Tie as tie
 
 -- the judge rejects: its answer is handed on, and the output stays
-rejected : tie.Need-returns
+rejected : tie.Need-returns-in_default
 rejected c =
-    let judged = c.before.before.judge-filter in
-    (judged.ensures, (stays judged.result judged.ensures c.enum-told2.given.1 _).1)
+    let judged = c.before.judge_filter-answer in
+    (judged.ensures, (stays judged.result judged.ensures c.in_default.is _).1)
 
 -- the judge accepts, which is what the work asks
-asked : tie.Need-filter-plane-requires
+asked : tie.Need-filter_plane-requires
 asked c κs =
-    let judged : tie.After-judge-filter = search rules in
-    let told : tie.After-enum-told = search rules in
-    accepts judged.judge-filter.result judged.judge-filter.ensures told.enum_told.given.1
+    let judged : tie.After-judge_filter-answer = search rules in
+    let told : tie.In-Accepted = search rules in
+    accepts judged.judge_filter-answer.result judged.judge_filter-answer.ensures told.in-Accepted.is
 
 -- the work is done
-worked : tie.Need-returns-2
+worked : tie.Need-returns
 worked c =
-    let judged : tie.After-judge-filter = search rules in
-    let told : tie.After-enum-told = search rules in
-    let done = c.before.before.filter-plane in
-    written judged.judge-filter.result judged.judge-filter.ensures told.enum_told.given.1 _ done.ensures
+    let judged : tie.After-judge_filter-answer = search rules in
+    let told : tie.In-Accepted = search rules in
+    let done = c.before.before.filter_plane in
+    written judged.judge_filter-answer.result judged.judge_filter-answer.ensures told.in-Accepted.is _ done.ensures
 
 pub filter_picture_spec : {M : Type 1} → statement M
 filter_picture_spec =

@@ -16,27 +16,27 @@ wide : (s : tie.Start) → SFits w64 s.args.n
 wide s = sfits_widen tt s.ranges.n
 
 negative : (c : tie.After-print) → lt_z c.before.before.before.args.n (pos 0) ≡ true
-negative c = let t = c.before.before in let s = t.before in simp (to_z-of_z, s.ranges.n, wide s) at t.if1.true
+negative c = let t = c.before.before in let s = t.before in simp (to_z-of_z, s.ranges.n, wide s) at t.if-wide-lt0.true
 
 negated : (c : tie.After-print) → SFits w64 (pos 0 -ℤ c.before.before.before.args.n)
 negated c = let s = c.before.before.before in opposite_fits s.args.n tt s.ranges.n (negative c)
 
-cast-wide : tie.Need-overflow-cast-wide
+cast-wide : tie.Need-overflow_cast-wide
 cast-wide c = simp (to_z-of_z, c.ranges.n) (wide c)
 
-sub-print-decimal : tie.Need-overflow-sub-print-decimal
+sub-print-decimal : tie.Need-overflow_sub-wide
 sub-print-decimal c = let s = c.before.before.before in simp (to_z-of_z, s.ranges.n, wide s) (negated c)
 
-cast-print-decimal : tie.Need-overflow-cast-print-decimal
+cast-print-decimal : tie.Need-overflow_cast-wide-then-wide-lt0
 cast-print-decimal c =
     let s = c.before.before.before in
     simp (to_z-of_z, s.ranges.n, wide s, negated c) (opposite_above s.args.n (negative c), Fits-nat_abs tt (negated c))
 
-cast-print-decimal-2 : tie.Need-overflow-cast-print-decimal-2
+cast-print-decimal-2 : tie.Need-overflow_cast-wide-else-wide-lt0
 cast-print-decimal-2 c =
     let s = c.before in
     simp (to_z-of_z, s.ranges.n, wide s)
-    (not-below s.args.n (simp (to_z-of_z, s.ranges.n, wide s) at c.if1.false), Fits-nat_abs tt (wide s))
+    (not-below s.args.n (simp (to_z-of_z, s.ranges.n, wide s) at c.if-wide-lt0.false), Fits-nat_abs tt (wide s))
 
 pub print_integer_spec : {M : Type 1} → statement M
 print_integer_spec =

@@ -6,10 +6,10 @@ use lib.ListN.{length}
 use Rattle.alf_print.proofs.print_map.Statement.{statement}
 use Rattle.alf_print.proofs.print_map.Tie as tie
 
-abbrev invariant-loop : tie.invariant-loop
+abbrev invariant-loop : tie.invariant-loop-k
 invariant-loop map columns k₀ k = k ≤ length map
 
-abbrev decreases-loop : tie.decreases-loop
+abbrev decreases-loop : tie.decreases-loop-k
 decreases-loop map columns k₀ k = length map - k
 
 pub print_map_spec : {M : Type 1} → statement M

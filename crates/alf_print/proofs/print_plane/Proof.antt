@@ -6,10 +6,10 @@ use lib.ListN.{length}
 use Rattle.alf_print.proofs.print_plane.Statement.{statement}
 use Rattle.alf_print.proofs.print_plane.Tie as tie
 
-abbrev invariant-loop : tie.invariant-loop
+abbrev invariant-loop : tie.invariant-loop-k
 invariant-loop plane columns k₀ k = k ≤ length plane
 
-abbrev decreases-loop : tie.decreases-loop
+abbrev decreases-loop : tie.decreases-loop-k
 decreases-loop plane columns k₀ k = length plane - k
 
 pub print_plane_spec : {M : Type 1} → statement M

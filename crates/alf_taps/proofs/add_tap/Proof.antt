@@ -45,7 +45,7 @@ total_fits s =
 tap-requires : tie.Need-tap-requires
 tap-requires c κs =
     let s : tie.Start = search rules in
-    simp (to_z-of_z, coeff-fits s, clip-fits s) (s.pre.1, coeff-range s, clip_range s, s.pre.4, s.pre.5)
+    simp (to_z-of_z, coeff-fits s, clip-fits s) (s.requires.1, coeff-range s, clip_range s, s.requires.4, s.requires.5)
 
 -- what the function is given, from where the tap is known
 abbrev start : tie.After-tap → tie.Start
@@ -54,13 +54,13 @@ start c = search rules
 valued : (c : tie.After-tap) → to_z w32 (of_z w32 c.tap.result) ≡ added (start c)
 valued c =
     let s = start c in
-    returned w32 c.tap.type-inv (simp (to_z-of_z, coeff-fits s, clip-fits s) at c.tap.ensures)
+    returned w32 c.tap.type_inv (simp (to_z-of_z, coeff-fits s, clip-fits s) at c.tap.ensures)
 
-add-result : tie.Need-overflow-add-result
-add-result c = let s = start c in simp (to_z-of_z, s.fits.sum, valued c) (total_fits s)
+add-result : tie.Need-overflow_add-result
+add-result c = let s = start c in simp (to_z-of_z, s.ranges.sum, valued c) (total_fits s)
 
 returns : tie.Need-returns
-returns c = let s = start c in simp (to_z-of_z, s.fits.sum, valued c, total_fits s)
+returns c = let s = start c in simp (to_z-of_z, s.ranges.sum, valued c, total_fits s)
 
 pub add_tap_spec : {M : Type 1} → statement M
 add_tap_spec =

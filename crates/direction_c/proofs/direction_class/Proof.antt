@@ -11,21 +11,21 @@ use Rattle.direction_c.proofs.direction_class.Statement.{statement}
 use Rattle.direction_c.proofs.direction_class.Tie as tie
 
 -- what the test of the arguments said
-tested : (c : tie.After-has-class) (t : Bool) → c.has-class.result ≡ t → let a = c.before.args in
+tested : (c : tie.After-has_class) (t : Bool) → c.has_class.result ≡ t → let a = c.before.args in
     has_class a.v a.h a.d0 a.d1 a.factor a.depth ≡ t
-tested c t e = sym c.has-class.ensures ∙ e
+tested c t e = sym c.has_class.ensures ∙ e
 
-number_small : (c : tie.After-class-of-sums) → class_number c.class-of-sums.result < 128
-number_small c = rw c.class-of-sums.ensures (class_small _ _ _)
+number_small : (c : tie.After-class_of_sums-class) → class_number c.class_of_sums-class.result < 128
+number_small c = rw c.class_of_sums-class.ensures (class_small _ _ _)
 
 pub direction_class_spec : {M : Type 1} → statement M
 direction_class_spec =
     tie.close
     (tie.spec (λ c κs. search rules)
-    (λ c κs. in_range _ _ _ _ _ _ (tested c.before true c.if1.true))
+    (λ c κs. in_range _ _ _ _ _ _ (tested c.before true c.if-has_class.true))
     (λ c. search (rules, number_small c.before))
     (λ c. search (rules, number_small c.before.before))
     (λ c. search (rules, number_small c.before.before))
-    (λ c. let k = c.before.before in rw (tested k.before.before true k.before.if1.true)
-    (ap class_number k.class-of-sums.ensures))
-    (λ c. rw (tested c.before false c.if1.false)))
+    (λ c. let k = c.before.before in rw (tested k.before.before true k.before.if-has_class.true)
+    (ap class_number k.class_of_sums-class.ensures))
+    (λ c. rw (tested c.before false c.if-has_class.false)))

@@ -10,6 +10,6 @@ unfolding shape_of
 shape_of_spec =
     tie.close
     (tie.spec
-    (λ c. simp (eq-eqb _ _ c.if1.true) (omega arith))
-    (λ c. simp (ne_eqb _ _ c.before.if1.false, eq-eqb _ _ c.if2.true) (omega arith))
-    (λ c. simp (ne_eqb _ _ c.before.if1.false, ne_eqb _ _ c.if2.false) (omega arith)))
+    (λ c. simp (eq-eqb _ _ c.if-tag-eq2.true) (omega arith))
+    (λ c. simp (ne_eqb _ _ c.before.if-tag-eq2.false, eq-eqb _ _ c.if-tag-eq3.true) (omega arith))
+    (λ c. simp (ne_eqb _ _ c.before.if-tag-eq2.false, ne_eqb _ _ c.if-tag-eq3.false) (omega arith)))

@@ -8,20 +8,20 @@ use Rattle.alf_boundary.proofs.clips.find_clip.Statement.{statement}
 use Rattle.alf_boundary.proofs.clips.find_clip.Tie as tie
 
 -- what each rule finds
-rules : (c : tie.After-side-clip) (ratio : ℕ) →
+found : (c : tie.After-side_clip-by_side) (ratio : ℕ) →
     let boundary = c.before in
     let line = boundary.before in
     let s = line.before.before.args in
     let a = axis_along s.axis s.boundaries.now ratio in
-    (clip_of line.line-clip.result ≡ line_clip a s.x (side_of s.after))
-    × (clip_of boundary.virtual-clip.result ≡ virtual_clip a s.x (side_of s.after))
-    × (clip_of c.side-clip.result ≡ side_clip a s.x (sides_along s.axis) (side_of s.after))
-rules c ratio =
+    (clip_of line.line_clip-by_line.result ≡ line_clip a s.x (side_of s.after))
+    × (clip_of boundary.virtual_clip-by_boundary.result ≡ virtual_clip a s.x (side_of s.after))
+    × (clip_of c.side_clip-by_side.result ≡ side_clip a s.x (sides_along s.axis) (side_of s.after))
+found c ratio =
     let line = c.before.before in
     let s = line.before.before.args in (
-      line.line-clip.ensures s.boundaries.now ratio,
-      c.before.virtual-clip.ensures s.axis.size s.axis.ctb s.axis.line ratio,
-      c.side-clip.ensures s.boundaries.now ratio,
+      line.line_clip-by_line.ensures s.boundaries.now ratio,
+      c.before.virtual_clip-by_boundary.ensures s.axis.size s.axis.ctb s.axis.line ratio,
+      c.side_clip-by_side.ensures s.boundaries.now ratio,
     )
 
 pub find_clip_spec : {M : Type 1} → statement M
@@ -32,11 +32,11 @@ find_clip_spec =
     (λ c κs. search rules) (λ c κs. search rules)
     (λ c ratio.
     let test = c.before.before in
-    let by = rules test.before ratio in
+    let by = found test.before ratio in
     let rest = c.before.or_else.ensures ∙ (λ t. by.0 t or_else by.2 t) in
-    rw test.if1.true (rw test.if1.true at (c.or-else2.ensures ∙ (λ t. by.1 t or_else rest t))))
+    rw test.if-after.true (rw test.if-after.true at (c.or_else-then-after.ensures ∙ (λ t. by.1 t or_else rest t))))
     (λ c ratio.
     let test = c.before.before in
-    let by = rules test.before ratio in
-    let rest = c.before.or-else3.ensures ∙ (λ t. by.1 t or_else by.2 t) in
-    rw test.if1.false (rw test.if1.false at (c.or-else4.ensures ∙ (λ t. by.0 t or_else rest t)))))
+    let by = found test.before ratio in
+    let rest = c.before.or_else-else-after.ensures ∙ (λ t. by.1 t or_else by.2 t) in
+    rw test.if-after.false (rw test.if-after.false at (c.or_else-else-after-2.ensures ∙ (λ t. by.0 t or_else rest t)))))

@@ -9,5 +9,5 @@ is_near_spec =
     tie.close
     (tie.spec
     (λ c. search rules) (λ c. search rules)
-    (λ c. rw (c.if1.true, distance-le))
-    (λ c. rw (c.if1.false, distance-le)))
+    (λ c. rw (c.if-after.true, distance-le))
+    (λ c. rw (c.if-after.false, distance-le)))

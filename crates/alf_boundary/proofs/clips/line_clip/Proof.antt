@@ -14,14 +14,14 @@ line_clip_spec =
     (tie.spec
     (λ c κs. omega (arith, start-le c.requires refl))
     (λ c. search rules)
-    (λ c. let start = c.before in omega (arith, start-le start.before.requires start.ctb-start.ensures))
+    (λ c. let start = c.before in omega (arith, start-le start.before.requires start.ctb_start-start.ensures))
     (λ c. search rules) (λ c κs. search rules) (λ c. search rules) (λ c. search start-le) (λ c κs. search rules)
     (λ c boundaries ratio.
     let test = c.before.before in
     let start = test.before.before in
-    rw (test.if1.true, distance-le, start_is start.before.requires start.ctb-start.ensures) c.only_if.ensures)
+    rw (test.if-after.true, distance-le, start_is start.before.requires start.ctb_start-start.ensures) c.only_if.ensures)
     (λ c boundaries ratio.
     let test = c.before.before.before in
     let start = test.before.before in
     let h = start.before.requires in
-    rw (test.if1.false, in_ctb_lem h start.ctb-start.ensures, start_is h start.ctb-start.ensures) c.only-if2.ensures))
+    rw (test.if-after.false, in_ctb_lem h start.ctb_start-start.ensures, start_is h start.ctb_start-start.ensures) c.only_if-else-after.ensures))

@@ -6,5 +6,5 @@ pub only_if_spec : {M : Type 1} → statement M
 only_if_spec =
     tie.close
     (tie.spec
-    (λ c. rw c.if1.true)
-    (λ c. rw c.if1.false))
+    (λ c. rw c.if-test.true)
+    (λ c. rw c.if-test.false))

@@ -8,5 +8,5 @@ or_else_spec =
     tie.close
     (tie.spec
     (λ c. search rules) (λ c. search rules)
-    (λ c. rw c.before.first.given.1)
-    (λ c. rw c.enum_told.given.1))
+    (λ c. search rules)
+    (λ c. search rules))

@@ -14,19 +14,19 @@ side_clip_spec =
     (tie.spec
     (λ c κs. omega (arith, start-le c.requires refl))
     (λ c. search start-le)
-    (λ c. let start = c.before.before in omega (arith, in_ctb-lt start.before.requires start.ctb-start.ensures))
+    (λ c. let start = c.before.before in omega (arith, in_ctb-lt start.before.requires start.ctb_start-start.ensures))
     (λ c κs. search rules)
-    (λ c. let start : tie.After-ctb-start = search rules in omega (arith, start-le start.before.pre start.ctb-start.ensures))
+    (λ c. let start : tie.After-ctb_start-start = search rules in omega (arith, start-le start.before.requires start.ctb_start-start.ensures))
     (λ c κs. search rules) (λ c. search start-le) (λ c κs. search rules) (λ c κs. search rules)
     (λ c boundaries ratio.
     let asked = c.before.before in
     let test = asked.before.before in
-    let start = test.before.ctb-start.ensures in
+    let start = test.before.ctb_start-start.ensures in
     let h = test.before.before.requires in
-    rw (test.if1.true, ← asked.disables.ensures, in_ctb_lem h start, start_is h start) c.only_if.ensures)
+    rw (test.if-after.true, ← asked.disables.ensures, in_ctb_lem h start, start_is h start) c.only_if.ensures)
     (λ c boundaries ratio.
     let asked = c.before in
     let test = asked.before in
-    let start = test.before.ctb-start.ensures in
+    let start = test.before.ctb_start-start.ensures in
     let h = test.before.before.requires in
-    rw (test.if1.false, ← asked.disables2.ensures, in_ctb_lem h start, start_is h start) c.only-if2.ensures))
+    rw (test.if-after.false, ← asked.disables-else-after.ensures, in_ctb_lem h start, start_is h start) c.only_if-else-after.ensures))

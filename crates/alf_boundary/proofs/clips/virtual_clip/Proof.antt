@@ -9,10 +9,10 @@ use Rattle.alf_boundary.proofs.ClipRules.{Sought, sought_none, sought_here, soug
 use Rattle.alf_boundary.proofs.clips.virtual_clip.Statement.{statement}
 use Rattle.alf_boundary.proofs.clips.virtual_clip.Tie as tie
 
-abbrev invariant-loop : tie.invariant-loop
+abbrev invariant-loop : tie.invariant-loop-i
 invariant-loop after boundaries x i₀ i = Sought (near (side_of after) x) boundaries i
 
-abbrev decreases-loop : tie.decreases-loop
+abbrev decreases-loop : tie.decreases-loop-i
 decreases-loop after boundaries x i₀ i = length boundaries - i
 
 pub virtual_clip_spec : {M : Type 1} → statement M
@@ -21,15 +21,15 @@ virtual_clip_spec =
     tie.close
     (tie.spec invariant-loop decreases-loop (λ c. sought_none _ _)
     (λ c. search rules) (λ c. search rules)
-    (λ c. omega (arith, c.shared-slice-known2.given c.before.before.loop.i))
+    (λ c. omega (arith, c.shared_slice_known-in-loop-i-1.given c.before.before.loop-i.i))
     (λ c κs.
     let s : tie.Start invariant-loop decreases-loop = search rules in
-    (s.pre, omega (arith, c.shared-slice-known2.given c.before.before.loop.i)))
+    (s.requires, omega (arith, c.shared_slice_known-in-loop-i-1.given c.before.before.loop-i.i)))
     (λ c size ctb line ratio.
     let read = c.before.before in
-    sought_here read.before.before.loop.invariant read.before.loop-test.true c.before.is-near.ensures c.if1.true)
+    sought_here read.before.before.loop-i.invariant read.before.loop-i-test.true c.before.is_near.ensures c.if-is_near.true)
     (λ c. search rules) (λ c. search rules)
     (λ c.
     let read = c.before.before in
-    sought_more read.before.before.loop.invariant read.before.loop-test.true c.before.is-near.ensures c.if1.false)
-    (λ c size ctb line ratio. sought_done c.before.loop.invariant c.loop-test.false))
+    sought_more read.before.before.loop-i.invariant read.before.loop-i-test.true c.before.is_near.ensures c.if-is_near.false)
+    (λ c size ctb line ratio. sought_done c.before.loop-i.invariant c.loop-i-test.false))

@@ -10,7 +10,7 @@ membership_of_spec =
     (λ c. search rules) (λ c. search rules) (λ c κs. search rules) (λ c. search rules) (λ c. search rules) (λ c. search rules)
     (λ c. search rules)
     (λ c κs.
-    let at : tie.After-address = search rules in
+    let at : tie.After-address-at = search rules in
     let s : tie.Start = search rules in
-    rw at.address.ensures s.pre.switch)
-    (λ c. let at : tie.After-address = search rules in rw (c.switch-of.ensures, at.address.ensures)))
+    rw at.address-at.ensures s.requires.switch)
+    (λ c. let at : tie.After-address-at = search rules in rw (c.switch_of.ensures, at.address-at.ensures)))

@@ -6,5 +6,5 @@ pub ctb_or_own_spec : {M : Type 1} → statement M
 ctb_or_own_spec =
     tie.close
     (tie.spec
-    (λ c. rw c.if1.true)
-    (λ c. rw c.if1.false))
+    (λ c. rw c.if-there.true)
+    (λ c. rw c.if-there.false))

@@ -10,20 +10,20 @@ neighbours_of_spec =
     (λ c κs. search rules) (λ c κs. search rules) (λ c κs. search rules) (λ c κs. search rules) (λ c κs. search rules)
     (λ c κs. search rules) (λ c κs. search rules) (λ c κs. search rules)
     (λ c.
-    let corner : tie.After-ctb-or-own5 = search rules in
-    let below : tie.After-ctb-or-own4 = search rules in
-    let above : tie.After-ctb-or-own3 = search rules in
-    let right : tie.After-ctb-or-own2 = search rules in
-    let left : tie.After-ctb-or-own = search rules in
-    let down : tie.After-neighbours-along2 = search rules in
-    let across : tie.After-neighbours-along = search rules in
+    let corner : tie.After-ctb_or_own-5 = search rules in
+    let below : tie.After-ctb_or_own-4 = search rules in
+    let above : tie.After-ctb_or_own-3 = search rules in
+    let right : tie.After-ctb_or_own-2 = search rules in
+    let left : tie.After-ctb_or_own = search rules in
+    let down : tie.After-neighbours_along-down = search rules in
+    let across : tie.After-neighbours_along-across = search rules in
     rw (
-      c.ctb-or-own6.ensures,
-      corner.ctb-or-own5.ensures,
-      below.ctb-or-own4.ensures,
-      above.ctb-or-own3.ensures,
-      right.ctb-or-own2.ensures,
-      left.ctb-or-own.ensures,
-      down.neighbours-along2.ensures,
-      across.neighbours-along.ensures,
+      c.ctb_or_own-6.ensures,
+      corner.ctb_or_own-5.ensures,
+      below.ctb_or_own-4.ensures,
+      above.ctb_or_own-3.ensures,
+      right.ctb_or_own-2.ensures,
+      left.ctb_or_own.ensures,
+      down.neighbours_along-down.ensures,
+      across.neighbours_along-across.ensures,
     )))

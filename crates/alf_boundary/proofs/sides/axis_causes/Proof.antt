@@ -12,8 +12,8 @@ axis_causes_spec =
     let first = c.before in
     let after = first.before in
     rw (
-      first.step-cause.ensures,
-      c.step-cause2.ensures,
-      after.before.membership-of.ensures,
-      after.membership-of2.ensures,
+      first.step_cause.ensures,
+      c.step_cause-2.ensures,
+      after.before.membership_of-into_before.ensures,
+      after.membership_of-into_after.ensures,
     )))

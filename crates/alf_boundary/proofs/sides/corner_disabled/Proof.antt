@@ -8,4 +8,4 @@ corner_disabled_spec =
     tie.close
     (tie.spec
     (λ c κs. search rules) (λ c. search rules) (λ c κs. search rules)
-    (λ c. let at : tie.After-address = search rules in rw (← at.address.ensures) c.slice-step-disabled.ensures))
+    (λ c. let at : tie.After-address-at = search rules in rw (← at.address-at.ensures) c.slice_step_disabled.ensures))

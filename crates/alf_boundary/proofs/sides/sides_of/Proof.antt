@@ -9,50 +9,50 @@ use Rattle.alf_boundary.proofs.sides.sides_of.Statement.{statement}
 use Rattle.alf_boundary.proofs.sides.sides_of.Tie as tie
 
 -- where the function begins, seen from where the neighbours are known
-abbrev start : tie.After-neighbours-of → tie.Start
+abbrev start : tie.After-neighbours_of-near → tie.Start
 start near = search rules
 
 returns : tie.Need-returns
 returns c columns rows =
-    let corner : tie.After-corner-disabled = search rules in
-    let down : tie.After-axis-causes2 = search rules in
-    let across : tie.After-axis-causes = search rules in
-    let near : tie.After-neighbours-of = search rules in
-    let own : tie.After-membership-of = search rules in
+    let corner : tie.After-corner_disabled = search rules in
+    let down : tie.After-axis_causes-down = search rules in
+    let across : tie.After-axis_causes-across = search rules in
+    let near : tie.After-neighbours_of-near = search rules in
+    let own : tie.After-membership_of-own = search rules in
     let s = start near in
     let l =
-    layout_of s.args.picture columns rows s.args.tile-columns.now s.args.tile-rows.now s.args.slice-map.now
-    s.args.subpic-map.now s.args.subpic-across.now in
+    layout_of s.args.picture columns rows s.args.tile_columns.now s.args.tile_rows.now s.args.slice_map.now
+    s.args.subpic_map.now s.args.subpic_across.now in
     rw (
-      across.axis-causes.ensures,
-      down.axis-causes2.ensures,
-      corner.corner-disabled.ensures,
-      c.corner-disabled2.ensures,
-      near.neighbours-of.ensures,
-      own.membership-of.ensures,
-    ) (sides_are l s.args.grid s.pre.0 s.args.ctb)
+      across.axis_causes-across.ensures,
+      down.axis_causes-down.ensures,
+      corner.corner_disabled.ensures,
+      c.corner_disabled-2.ensures,
+      near.neighbours_of-near.ensures,
+      own.membership_of-own.ensures,
+    ) (sides_are l s.args.grid s.requires.0 s.args.ctb)
 
 pub sides_of_spec : {M : Type 1} → statement M
 sides_of_spec =
     tie.close
     (tie.spec
-    (λ c κs. let s : tie.Start = search rules in in_tables s.pre.1 _ s.pre.2 s.pre.3)
+    (λ c κs. let s : tie.Start = search rules in in_tables s.requires.1 _ s.requires.2 s.requires.3)
     (λ c κs. search rules)
     (λ c κs.
     let s : tie.Start = search rules in
-    let reached = beside_reached s.pre.1 _ s.pre.2 s.pre.3 in
-    rw c.neighbours-of.ensures (reached before, reached after))
+    let reached = beside_reached s.requires.1 _ s.requires.2 s.requires.3 in
+    rw c.neighbours_of-near.ensures (reached before, reached after))
     (λ c κs.
     let s : tie.Start = search rules in
-    let near : tie.After-neighbours-of = search rules in
-    let reached = stacked_reached s.pre.1 _ s.pre.2 s.pre.3 in
-    rw near.neighbours-of.ensures (reached before, reached after))
+    let near : tie.After-neighbours_of-near = search rules in
+    let reached = stacked_reached s.requires.1 _ s.requires.2 s.requires.3 in
+    rw near.neighbours_of-near.ensures (reached before, reached after))
     (λ c κs.
     let s : tie.Start = search rules in
-    let near : tie.After-neighbours-of = search rules in
-    rw near.neighbours-of.ensures (diagonal_reached s.pre.1 _ s.pre.2 s.pre.3 before).slice)
+    let near : tie.After-neighbours_of-near = search rules in
+    rw near.neighbours_of-near.ensures (diagonal_reached s.requires.1 _ s.requires.2 s.requires.3 before).slice)
     (λ c κs.
     let s : tie.Start = search rules in
-    let near : tie.After-neighbours-of = search rules in
-    rw near.neighbours-of.ensures (diagonal_reached s.pre.1 _ s.pre.2 s.pre.3 after).slice)
+    let near : tie.After-neighbours_of-near = search rules in
+    rw near.neighbours_of-near.ensures (diagonal_reached s.requires.1 _ s.requires.2 s.requires.3 after).slice)
     returns)

@@ -9,14 +9,14 @@ step_cause_spec =
     tie.close
     (tie.spec (λ c κs. search rules)
     (λ c.
-    let called : tie.After-slice-step-disabled = search rules in
-    simp (sym called.slice-step-disabled.ensures, c.if1.true))
+    let called : tie.After-slice_step_disabled-slice = search rules in
+    simp (sym called.slice_step_disabled-slice.ensures, c.if-tile.true))
     (λ c.
-    let called : tie.After-slice-step-disabled = search rules in
-    simp (sym called.slice-step-disabled.ensures, c.before.if1.false, c.if2.true))
+    let called : tie.After-slice_step_disabled-slice = search rules in
+    simp (sym called.slice_step_disabled-slice.ensures, c.before.if-tile.false, c.if-slice.true))
     (λ c.
-    let called : tie.After-slice-step-disabled = search rules in
-    simp (sym called.slice-step-disabled.ensures, c.before.before.if1.false, c.before.if2.false, c.if3.true))
+    let called : tie.After-slice_step_disabled-slice = search rules in
+    simp (sym called.slice_step_disabled-slice.ensures, c.before.before.if-tile.false, c.before.if-slice.false, c.if-subpic.true))
     (λ c.
-    let called : tie.After-slice-step-disabled = search rules in
-    simp (sym called.slice-step-disabled.ensures, c.before.before.if1.false, c.before.if2.false, c.if3.false)))
+    let called : tie.After-slice_step_disabled-slice = search rules in
+    simp (sym called.slice_step_disabled-slice.ensures, c.before.before.if-tile.false, c.before.if-slice.false, c.if-subpic.false)))

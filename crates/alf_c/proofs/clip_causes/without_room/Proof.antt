@@ -8,5 +8,5 @@ pub without_room_spec : {M : Type 1} → statement M
 without_room_spec =
     tie.close
     (tie.spec
-    (λ c. sym (ap (λ (before : Bool). cond before c.before.args.number 5) c.if1.true))
-    (λ c. sym (ap (λ (before : Bool). cond before c.before.args.number 5) c.if1.false)))
+    (λ c. sym (ap (λ (before : Bool). cond before c.before.args.number 5) c.if-number.true))
+    (λ c. sym (ap (λ (before : Bool). cond before c.before.args.number 5) c.if-number.false)))

@@ -5,21 +5,21 @@ use Rattle.alf_c.proofs.WrittenIsolation.{says, says_why}
 use Rattle.alf_c.proofs.isolated.alf_isolated.Statement.{statement}
 use Rattle.alf_c.proofs.isolated.alf_isolated.Tie as tie
 
-returns : tie.Need-returns
+returns : tie.Need-returns-in-Isolated
 returns c =
-    let said = c.before.before.isolated in
-    says said.result _ said.ensures.0 said.ensures.1 _ c.enum_told.given.1 refl
+    let said = c.before.isolated-answer in
+    says said.result _ said.ensures.0 said.ensures.1 _ c.in-Isolated.is refl
 
-returns-2 : tie.Need-returns-2
+returns-2 : tie.Need-returns-in-NotIsolated
 returns-2 c =
-    let said = c.before.before.isolated in
-    says said.result _ said.ensures.0 said.ensures.1 _ c.enum-told2.given.1 refl
+    let said = c.before.isolated-answer in
+    says said.result _ said.ensures.0 said.ensures.1 _ c.in-NotIsolated.is refl
 
-returns-3 : tie.Need-returns-3
+returns-3 : tie.Need-returns-in-Rejected
 returns-3 c =
-    let told = c.before.before in
-    let said = told.before.before.isolated in
-    says_why said.result _ said.ensures.0 said.ensures.1 _ told.answer.given.1 c.fault-number.ensures
+    let told : tie.In-Rejected = search rules in
+    let said = told.before.isolated-answer in
+    says_why said.result _ said.ensures.0 said.ensures.1 _ told.in-Rejected.is c.fault_number.ensures
 
 pub alf_isolated_spec : {M : Type 1} → statement M
 alf_isolated_spec =

@@ -29,11 +29,11 @@ level s = s.requires.0.samples _ (omega (arith, s.requires.0.rise))
 small : (s : tie.Start) → nat_abs (sum s) ≤ 6 * 2 ^ 20
 small s = spread_sum s.requires.2 _ s.requires.1 6 (omega arith) _ _ _
 
-chroma-sum-requires : tie.Need-chroma-sum-requires
+chroma-sum-requires : tie.Need-chroma_sum-requires
 chroma-sum-requires c κs = let s = c.before.before in (s.requires.0, level s, s.requires.1, s.requires.2)
 
-summed : (c : tie.After-chroma-sum) → to_z w32 (of_z w32 c.chroma-sum.result) ≡ sum c.before.before.before
-summed c = returned w32 c.chroma-sum.type-inv c.chroma-sum.ensures
+summed : (c : tie.After-chroma_sum) → to_z w32 (of_z w32 c.chroma_sum.result) ≡ sum c.before.before.before
+summed c = returned w32 c.chroma_sum.type_inv c.chroma_sum.ensures
 
 filtered-requires : tie.Need-filtered-requires
 filtered-requires c κs = let s = c.before.before.before in rw (summed c) (level s, omega (arith, small s), s.requires.3, s.requires.4)

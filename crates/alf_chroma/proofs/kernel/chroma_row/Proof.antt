@@ -14,27 +14,27 @@ use Rattle.alf_chroma.proofs.kernel.chroma_row.Tie as tie
 use Rattle.alf_chroma.proofs.kernel.chroma_row.Reads as reads
 use Rattle.alf_chroma.proofs.kernel.chroma_row.Lts as lts
 
-abbrev invariant-loop : tie.invariant-loop
+abbrev invariant-loop : tie.invariant-loop-x
 invariant-loop copy n s taps shift depth output₀ from x₀ output x =
     (x ≤ n) × Paint output₀ (between from x) (chroma_copy_sample_from copy s taps shift depth from) output
 
-abbrev decreases-loop : tie.decreases-loop
+abbrev decreases-loop : tie.decreases-loop-x
 decreases-loop copy n s taps shift depth output₀ from x₀ output x = n - x
 
-chroma-at-requires : tie.Need-chroma-at-requires invariant-loop decreases-loop
+chroma-at-requires : tie.Need-chroma_at-requires invariant-loop decreases-loop
 chroma-at-requires c κs =
     let looped = c.before in
     let start = looped.before.before.before in
-    (reads_fewer start.requires.0 looped.loop.invariant.0, omega arith, start.requires.2, start.requires.3, start.requires.4)
+    (reads_fewer start.requires.0 looped.loop-x.invariant.0, omega arith, start.requires.2, start.requires.3, start.requires.4)
 
-loop-again : tie.Need-loop-preserved invariant-loop decreases-loop
+loop-again : tie.Need-loop-x-preserved invariant-loop decreases-loop
 loop-again c =
     let looped = c.before.before in
     let a = looped.before.before.before.args in
-    let l = looped.loop in
+    let l = looped.loop-x in
     let here : l.x ≡ a.from + l.x - a.from = omega arith in (
       omega arith,
-      paint_set _ _ l.invariant.1 (omega arith) (c.chroma-at.ensures
+      paint_set _ _ l.invariant.1 (omega arith) (c.chroma_at.ensures
           ∙ ap (chroma_copy_sample a.copy.now a.s a.taps.now a.shift a.depth) here)
           (λ k h. run_more _ _ k),
     )
@@ -47,4 +47,4 @@ chroma_row_spec =
     chroma-at-requires
     (λ c. omega arith) (λ c. omega arith) (λ c. omega arith) (λ c. omega arith) (λ c. omega arith)
     loop-again (λ c. search rules)
-    (λ c. cc (le_antisymm c.before.loop.invariant.0 c.loop-test.false, paint_is c.before.loop.invariant.1)))
+    (λ c. cc (le_antisymm c.before.loop-x.invariant.0 c.loop-x-test.false, paint_is c.before.loop-x.invariant.1)))

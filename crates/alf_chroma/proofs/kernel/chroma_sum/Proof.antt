@@ -30,35 +30,35 @@ given s = let R = s.requires.0 in
 abbrev Sum : tie.Start → ℕ → ℤ → Type 0
 Sum s n r = let a = s.args in SpreadSum a.taps.now a.x a.curr (plus s) (minus s) n (to_z w32 (of_z w32 r))
 
-sum-1 : (c : tie.After-add-tap) → let s : tie.Start = search rules in Sum s 1 c.add-tap.result
+sum-1 : (c : tie.After-add_tap-s0) → let s : tie.Start = search rules in Sum s 1 c.add_tap-s0.result
 unfolding copy_plus copy_minus
 sum-1 c = let s : tie.Start = search rules in
-    tap_added (given s) (plus s) (minus s) summed_none (omega arith) c.add-tap.type-inv c.add-tap.ensures
+    tap_added (given s) (plus s) (minus s) summed_none (omega arith) c.add_tap-s0.type_inv c.add_tap-s0.ensures
 
-sum-2 : (c : tie.After-add-tap2) → let s : tie.Start = search rules in Sum s 2 c.add-tap2.result
+sum-2 : (c : tie.After-add_tap-s1) → let s : tie.Start = search rules in Sum s 2 c.add_tap-s1.result
 unfolding copy_plus copy_minus
 sum-2 c = let s : tie.Start = search rules in
-    tap_added (given s) (plus s) (minus s) (sum-1 c.before) (omega arith) c.add-tap2.type-inv c.add-tap2.ensures
+    tap_added (given s) (plus s) (minus s) (sum-1 c.before) (omega arith) c.add_tap-s1.type_inv c.add_tap-s1.ensures
 
-sum-3 : (c : tie.After-add-tap3) → let s : tie.Start = search rules in Sum s 3 c.add-tap3.result
+sum-3 : (c : tie.After-add_tap-s2) → let s : tie.Start = search rules in Sum s 3 c.add_tap-s2.result
 unfolding copy_plus copy_minus
 sum-3 c = let s : tie.Start = search rules in
-    tap_added (given s) (plus s) (minus s) (sum-2 c.before) (omega arith) c.add-tap3.type-inv c.add-tap3.ensures
+    tap_added (given s) (plus s) (minus s) (sum-2 c.before) (omega arith) c.add_tap-s2.type_inv c.add_tap-s2.ensures
 
-sum-4 : (c : tie.After-add-tap4) → let s : tie.Start = search rules in Sum s 4 c.add-tap4.result
+sum-4 : (c : tie.After-add_tap-s3) → let s : tie.Start = search rules in Sum s 4 c.add_tap-s3.result
 unfolding copy_plus copy_minus
 sum-4 c = let s : tie.Start = search rules in
-    tap_added (given s) (plus s) (minus s) (sum-3 c.before) (omega arith) c.add-tap4.type-inv c.add-tap4.ensures
+    tap_added (given s) (plus s) (minus s) (sum-3 c.before) (omega arith) c.add_tap-s3.type_inv c.add_tap-s3.ensures
 
-sum-5 : (c : tie.After-add-tap5) → let s : tie.Start = search rules in Sum s 5 c.add-tap5.result
+sum-5 : (c : tie.After-add_tap-s4) → let s : tie.Start = search rules in Sum s 5 c.add_tap-s4.result
 unfolding copy_plus copy_minus
 sum-5 c = let s : tie.Start = search rules in
-    tap_added (given s) (plus s) (minus s) (sum-4 c.before) (omega arith) c.add-tap5.type-inv c.add-tap5.ensures
+    tap_added (given s) (plus s) (minus s) (sum-4 c.before) (omega arith) c.add_tap-s4.type_inv c.add_tap-s4.ensures
 
-sum-6 : (c : tie.After-add-tap6) → let s : tie.Start = search rules in Sum s 6 c.add-tap6.result
+sum-6 : (c : tie.After-add_tap) → let s : tie.Start = search rules in Sum s 6 c.add_tap.result
 unfolding copy_plus copy_minus
 sum-6 c = let s : tie.Start = search rules in
-    tap_added (given s) (plus s) (minus s) (sum-5 c.before) (omega arith) c.add-tap6.type-inv c.add-tap6.ensures
+    tap_added (given s) (plus s) (minus s) (sum-5 c.before) (omega arith) c.add_tap.type_inv c.add_tap.ensures
 
 pub chroma_sum_spec : {M : Type 1} → statement M
 unfolding tap_sum
@@ -66,15 +66,15 @@ chroma_sum_spec =
     tie.close
     (tie.spec
     (λ c κs. let s : tie.Start = search rules in let r = s.args.s in
-    tap_ready (given s) (plus s) (minus s) r.below2 3 r.above2 3 0 summed_none (omega (arith, s.pre.0.rise)))
+    tap_ready (given s) (plus s) (minus s) r.below2 3 r.above2 3 0 summed_none (omega (arith, s.requires.0.rise)))
     (λ c κs. let s : tie.Start = search rules in let r = s.args.s in
-    tap_ready (given s) (plus s) (minus s) r.below1 4 r.above1 2 128 (sum-1 c) (omega (arith, s.pre.0.rise)))
+    tap_ready (given s) (plus s) (minus s) r.below1 4 r.above1 2 128 (sum-1 c) (omega (arith, s.requires.0.rise)))
     (λ c κs. let s : tie.Start = search rules in let r = s.args.s in
-    tap_ready (given s) (plus s) (minus s) r.below1 3 r.above1 3 256 (sum-2 c) (omega (arith, s.pre.0.rise)))
+    tap_ready (given s) (plus s) (minus s) r.below1 3 r.above1 3 256 (sum-2 c) (omega (arith, s.requires.0.rise)))
     (λ c κs. let s : tie.Start = search rules in let r = s.args.s in
-    tap_ready (given s) (plus s) (minus s) r.below1 2 r.above1 4 384 (sum-3 c) (omega (arith, s.pre.0.rise)))
+    tap_ready (given s) (plus s) (minus s) r.below1 2 r.above1 4 384 (sum-3 c) (omega (arith, s.requires.0.rise)))
     (λ c κs. let s : tie.Start = search rules in let r = s.args.s in
-    tap_ready (given s) (plus s) (minus s) r.here 5 r.here 1 512 (sum-4 c) (omega (arith, s.pre.0.rise)))
+    tap_ready (given s) (plus s) (minus s) r.here 5 r.here 1 512 (sum-4 c) (omega (arith, s.requires.0.rise)))
     (λ c κs. let s : tie.Start = search rules in let r = s.args.s in
-    tap_ready (given s) (plus s) (minus s) r.here 4 r.here 2 640 (sum-5 c) (omega (arith, s.pre.0.rise)))
+    tap_ready (given s) (plus s) (minus s) r.here 4 r.here 2 640 (sum-5 c) (omega (arith, s.requires.0.rise)))
     (λ c. (sum-6 c).is))

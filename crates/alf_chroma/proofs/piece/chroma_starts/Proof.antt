@@ -7,15 +7,15 @@ use Rattle.alf_chroma.proofs.piece.chroma_starts.Statement.{statement}
 use Rattle.alf_chroma.proofs.piece.chroma_starts.Tie as tie
 
 -- what the function is given, seen from the reads of y1 and y2
-abbrev start : tie.After-struct-known2 → tie.Start
+abbrev start : tie.After-struct_known-2-1 → tie.Start
 start c = c.before.before
 
 -- a row of the copy begins at so small an index
-row-start : (c : tie.After-struct-known2) (row : ℕ) → row ≤ 134 → row * (start c).args.pitch ≤ 134 * 134
+row-start : (c : tie.After-struct_known-2-1) (row : ℕ) → row ≤ 134 → row * (start c).args.pitch ≤ 134 * 134
 row-start c row h = mul-le-mul h (start c).requires.0
 
 -- where the rows begin that are read
-small : (c : tie.After-struct-known2) → let a = (start c).args in
+small : (c : tie.After-struct_known-2-1) → let a = (start c).args in
     ((a.t + 3 - a.r.y2) * a.pitch ≤ 134 * 134) × ((a.t + 3 - a.r.y1) * a.pitch ≤ 134 * 134) × ((a.t + 3) * a.pitch ≤ 134 * 134)
     × ((a.t + 3 + a.r.y1) * a.pitch ≤ 134 * 134) × ((a.t + 3 + a.r.y2) * a.pitch ≤ 134 * 134)
 small c = let a = (start c).args in (

@@ -16,32 +16,32 @@ use Rattle.alf_chroma.proofs.piece.filter_piece.Tie as tie
 use Rattle.alf_chroma.proofs.piece.filter_piece.Reads as reads
 use Rattle.alf_chroma.proofs.piece.filter_piece.Lts as lts
 
-cast-copy-piece : tie.Need-overflow-cast-copy-piece
+cast-copy-piece : tie.Need-overflow_cast-width
 cast-copy-piece c =
     let start : tie.Start = search rules in
-    let P = start.pre.0.picture in
-    omega (arith, div-le_self start.args.picture.width c.before.sub-width.result, (width_bounds _ P.sizes P.ctb_size).1)
+    let P = start.requires.0.picture in
+    omega (arith, div-le_self start.args.picture.width c.before.sub_width.result, (width_bounds _ P.sizes P.ctb_size).1)
 
-copy-piece-requires : tie.Need-copy-piece-requires
+copy-piece-requires : tie.Need-copy_piece-requires
 copy-piece-requires c κs =
     let start : tie.Start = search rules in
-    let W = start.pre.0 in
-    let across = start.pre.1 in
-    let down = start.pre.2 in
-    rw c.before.before.sub-width.ensures.0
+    let W = start.requires.0 in
+    let across = start.requires.1 in
+    let down = start.requires.2 in
+    rw c.before.before.sub_width.ensures.0
     (across, down.low, down.filled, down.high, rows_fit _ down W.chroma_length, copy_fits across down W.copy_room)
 
 -- the copy has room
 room : (s : tie.Start) → let a = s.args in copy_length a.columns a.rows ≤ length a.copy.now
 room s = copy_fits s.requires.1 s.requires.2 s.requires.0.copy_room
 
-filter-rows-requires : tie.Need-filter-rows-requires
+filter-rows-requires : tie.Need-filter_rows-requires
 filter-rows-requires c κs =
     let start : tie.Start = search rules in
-    let copied : tie.After-copy-piece = search rules in
+    let copied : tie.After-copy_piece = search rules in
     let spread : tie.After-spread = search rules in
-    let copies = copied.copy-piece.ensures in
-    let pre = start.pre in
+    let copies = copied.copy_piece.ensures in
+    let pre = start.requires in
     let W = pre.0 in
     record {
       picture = W.picture;
@@ -62,11 +62,11 @@ returns c =
     let wide = copied.before.before.before in
     let filtered = c.before.before in (
       λ i ctb component of plane filter across down.
-          let wide = columns-wide i.layout of.picture wide.sub-width.ensures.0 in
+          let wide = columns-wide i.layout of.picture wide.sub_width.ensures.0 in
           let S = rw long.extent.ensures at spread.spread.ensures.0 in
-          paint_is (paint_same (paint_of filtered.filter-rows.ensures) (λ k h. refl)
-          (λ k h. sample_same i of across down _ _ wide (rw (← plane) at copied.copy-piece.ensures) (room start) component
-          start.pre.0.picture.grid filter S k)),
+          paint_is (paint_same (paint_of filtered.filter_rows.ensures) (λ k h. refl)
+          (λ k h. sample_same i of across down _ _ wide (rw (← plane) at copied.copy_piece.ensures) (room start) component
+          start.requires.0.picture.grid filter S k)),
       spread.spread.ensures.1,
     )
 

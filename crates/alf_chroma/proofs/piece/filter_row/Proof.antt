@@ -6,21 +6,21 @@ use Rattle.alf_chroma.proofs.Samples.{reads_row}
 use Rattle.alf_chroma.proofs.piece.filter_row.Statement.{statement}
 use Rattle.alf_chroma.proofs.piece.filter_row.Tie as tie
 
-chroma-row-requires : tie.Need-chroma-row-requires
+chroma-row-requires : tie.Need-chroma_row-requires
 chroma-row-requires c κs =
     let start : tie.Start = search rules in
-    let found : tie.After-chroma-starts = search rules in
+    let found : tie.After-chroma_starts-s = search rules in
     let a = start.args in
-    let p = start.pre in
+    let p = start.requires in
     let reads = reads_row a.n a.t a.offsets p.2 p.3 p.8 p.9 in
-    (rw found.chroma-starts.ensures reads, p.0, p.6, p.4, p.5, p.7)
+    (rw found.chroma_starts-s.ensures reads, p.0, p.6, p.4, p.5, p.7)
 
 returns : tie.Need-returns
 unfolding piece_sample
 returns c =
-    let found : tie.After-chroma-starts = search rules in
-    let filtered : tie.After-chroma-row = search rules in
-    rw found.chroma-starts.ensures at filtered.chroma-row.ensures
+    let found : tie.After-chroma_starts-s = search rules in
+    let filtered : tie.After-chroma_row = search rules in
+    rw found.chroma_starts-s.ensures at filtered.chroma_row.ensures
 
 pub filter_row_spec : {M : Type 1} → statement M
 filter_row_spec =

@@ -15,16 +15,16 @@ use Rattle.alf_chroma.proofs.piece.filter_rows.Tie as tie
 use Rattle.alf_chroma.proofs.piece.filter_rows.Reads as reads
 use Rattle.alf_chroma.proofs.piece.filter_rows.Lts as lts
 
-abbrev invariant-loop : tie.invariant-loop
+abbrev invariant-loop : tie.invariant-loop-y
 invariant-loop picture grid columns rows copy taps output₀ n depth width ratio y₀ output y =
     (rows.start ≤ y) × (y ≤ rows.end) × Begun picture grid columns rows copy taps (length output₀) n width ratio
     × Paint output₀ (in_rect width columns.start (columns.start + n) rows.start y)
     (copy_chroma_at picture grid.ctb copy taps columns rows) output
 
-abbrev decreases-loop : tie.decreases-loop
+abbrev decreases-loop : tie.decreases-loop-y
 decreases-loop picture grid columns rows copy taps output₀ n depth width ratio y₀ output y = rows.end - y
 
-loop-holds : tie.Need-loop-init invariant-loop decreases-loop
+loop-holds : tie.Need-loop-y-init invariant-loop decreases-loop
 loop-holds c =
     let wide = c.before.before in
     let long = wide.before.before in
@@ -33,54 +33,54 @@ loop-holds c =
       omega (arith, W.down.filled),
       record {
         work = W;
-        n_is = long.extent.ensures;
-        width_is = rw wide.sub-width.ensures.0;
-        ratio_is = c.sub-height.ensures.0;
+        n_is = long.extent-n.ensures;
+        width_is = rw wide.sub_width.ensures.0;
+        ratio_is = c.sub_height-ratio.ensures.0;
       },
       paint_none (λ k. rect_none _ _ _ _ _ k (inr (omega arith))),
     )
 
-rows-at-requires : tie.Need-rows-at-requires invariant-loop decreases-loop
+rows-at-requires : tie.Need-rows_at-offsets-requires invariant-loop decreases-loop
 rows-at-requires c κs =
-    let l = c.before.before.loop in
+    let l = c.before.before.loop-y in
     let G = l.invariant.2.work.picture.grid in
     let r = row-ratio l.invariant.2 in
-    (omega (arith, G.ctb_low), G.ctb_high, r.0, r.1, row_small l.invariant.2 _ l.invariant.0 c.if1.true)
+    (omega (arith, G.ctb_low), G.ctb_high, r.0, r.1, row_small l.invariant.2 _ l.invariant.0 c.loop-y-test.true)
 
-plane-index-requires : tie.Need-plane-index-requires invariant-loop decreases-loop
+plane-index-requires : tie.Need-plane_index-from-requires invariant-loop decreases-loop
 plane-index-requires c κs =
-    let l = c.before.before.before.loop in
-    ((narrow l.invariant.2).0, row_small l.invariant.2 _ l.invariant.0 c.before.if1.true)
+    let l = c.before.before.before.loop-y in
+    ((narrow l.invariant.2).0, row_small l.invariant.2 _ l.invariant.0 c.before.loop-y-test.true)
 
-filter-row-requires : tie.Need-filter-row-requires invariant-loop decreases-loop
+filter-row-requires : tie.Need-filter_row-requires invariant-loop decreases-loop
 filter-row-requires c κs =
     let indexed = c.before.before in
     let turn = indexed.before.before in
-    let l = turn.before.before.loop in
-    let table = indexed.before.rows_at.ensures in
-    let r = row_ready l.invariant.2 l.y l.invariant.0 turn.if1.true _ table _ indexed.plane-index.ensures in
+    let l = turn.before.before.loop-y in
+    let table = indexed.before.rows_at-offsets.ensures in
+    let r = row_ready l.invariant.2 l.y l.invariant.0 turn.loop-y-test.true _ table _ indexed.plane_index-from.ensures in
     (r.0, r.1, r.2, r.3, r.4, r.5, l.invariant.2.work.numbers, omega (arith, r.6, l.invariant.3.len), r.7, r.8)
 
-loop-again : tie.Need-loop-preserved invariant-loop decreases-loop
+loop-again : tie.Need-loop-y-preserved invariant-loop decreases-loop
 loop-again c =
     let filtered = c.before.before in
     let indexed = filtered.before.before.before in
     let turn = indexed.before.before in
-    let l = turn.before.before.loop in
-    let table = indexed.before.rows_at.ensures in
-    let at = indexed.plane-index.ensures in (
+    let l = turn.before.before.loop-y in
+    let table = indexed.before.rows_at-offsets.ensures in
+    let at = indexed.plane_index-from.ensures in (
       omega (arith, l.invariant.0),
-      omega (arith, turn.if1.true),
+      omega (arith, turn.loop-y-test.true),
       l.invariant.2,
-      paint_call _ _ l.invariant.3 filtered.filter-row.ensures
-          (λ k h t. row_sample_lem l.invariant.2 l.y l.invariant.0 turn.if1.true _ table _ at k t)
+      paint_call _ _ l.invariant.3 filtered.filter_row.ensures
+          (λ k h t. row_sample_lem l.invariant.2 l.y l.invariant.0 turn.loop-y-test.true _ table _ at k t)
           (λ k h. rw at (rect_more _ _ _ _ _ (in_plane_lem l.invariant.2) l.invariant.0 k)),
     )
 
 returns : tie.Need-returns invariant-loop decreases-loop
 returns c =
-    let l = c.before.before.loop in
-    rw (l.invariant.2.width_is, last-column l.invariant.2, le_antisymm l.invariant.1 c.if1.false) at (paint_is l.invariant.3)
+    let l = c.before.before.loop-y in
+    rw (l.invariant.2.width_is, last-column l.invariant.2, le_antisymm l.invariant.1 c.loop-y-test.false) at (paint_is l.invariant.3)
 
 pub filter_rows_spec : {M : Type 1} → statement M
 filter_rows_spec =

@@ -20,10 +20,10 @@ use Rattle.alf_chroma.proofs.piece.spread.Reads as reads
 use Rattle.alf_chroma.proofs.piece.spread.Lts as lts
 use Rattle.alf_lists.proofs.fill.Reads as fill-reads
 
-abbrev invariant-loop : tie.invariant-loop
+abbrev invariant-loop : tie.invariant-loop-j
 invariant-loop filters n taps₀ j₀ taps j = (j ≤ 6) × (length taps ≡ length taps₀) × Spread filters j n taps × TapNumbers taps
 
-abbrev decreases-loop : tie.decreases-loop
+abbrev decreases-loop : tie.decreases-loop-j
 decreases-loop filters n taps₀ j₀ taps j = 6 - j
 
 coeff-fits : (z : ℤ) → CoeffRange z → SFits w16 z
@@ -33,29 +33,29 @@ clip-fits : {z : ℤ} → ClipRange z → SFits w16 z
 clip-fits h = fits_abs (omega (arith, h.small))
 
 fill-requires : tie.Need-fill-requires invariant-loop decreases-loop
-fill-requires c κs = let l = c.before.before.before.loop in omega (arith, l.invariant.3.room)
+fill-requires c κs = let l = c.before.before.before.loop-j in omega (arith, l.invariant.3.room)
 
-fill-requires-2 : tie.Need-fill-requires-2 invariant-loop decreases-loop
+fill-requires-2 : tie.Need-fill-requires-in-loop-j invariant-loop decreases-loop
 fill-requires-2 c κs =
     let coefficients = c.before.before.before in
     let turn = coefficients.before.before.before in
-    omega (arith, turn.before.loop.invariant.3.room, coefficients.fill.ensures.len)
+    omega (arith, turn.before.loop-j.invariant.3.room, coefficients.fill.ensures.len)
 
-loop-again : tie.Need-loop-preserved invariant-loop decreases-loop
+loop-again : tie.Need-loop-j-preserved invariant-loop decreases-loop
 loop-again c =
     let filled = c.before in
     let coefficients : tie.After-fill invariant-loop decreases-loop = search rules in
     let turn = coefficients.before.before.before in
-    let l = turn.before.loop in
+    let l = turn.before.loop-j in
     let s = turn.before.before in
-    let v = s.pre.1 l.j turn.loop-test.taken in
-    let w = s.pre.2 l.j turn.loop-test.taken in
+    let v = s.requires.1 l.j turn.loop-j-test.true in
+    let w = s.requires.2 l.j turn.loop-j-test.true in
     let filters = s.args.filters.now in
     let first = simp (to_z-of_z, coeff-fits (get_or filters l.j (pos 0)) v) at coefficients.fill.ensures in
-    let second = simp (to_z-of_z, clip-fits w) at filled.fill2.ensures in
-    let more = numbers_more filters l.j l.inv.3 s.pre.3 turn.loop-test.taken first second in
-    let on = spread_more filters l.j l.inv.3 s.pre.3 turn.loop-test.taken first second in
-    (omega (arith, turn.loop-test.taken), second.len ∙ first.len ∙ l.inv.1, on l.inv.2, more v w)
+    let second = simp (to_z-of_z, clip-fits w) at filled.fill-in-loop-j.ensures in
+    let more = numbers_more filters l.j l.invariant.3 s.requires.3 turn.loop-j-test.true first second in
+    let on = spread_more filters l.j l.invariant.3 s.requires.3 turn.loop-j-test.true first second in
+    (omega (arith, turn.loop-j-test.true), second.len ∙ first.len ∙ l.invariant.1, on l.invariant.2, more v w)
 
 pub spread_spec : {M : Type 1} → statement M
 spread_spec =
@@ -66,5 +66,5 @@ spread_spec =
     (λ c. omega arith) (λ c. omega arith) (λ c. omega arith) (λ c. omega arith) (λ c. omega arith)
     fill-requires-2
     (λ c. omega arith) (λ c. omega arith)
-    loop-again (λ c. c.before.loop.invariant.1)
-    (λ c. let l = c.before.loop in (rw (le_antisymm l.invariant.0 c.loop-test.false) at l.invariant.2, l.invariant.3)))
+    loop-again (λ c. c.before.loop-j.invariant.1)
+    (λ c. let l = c.before.loop-j in (rw (le_antisymm l.invariant.0 c.loop-j-test.false) at l.invariant.2, l.invariant.3)))

@@ -17,8 +17,8 @@ unfolding bottom_distance
 returns c =
     let s = c.before.before.before in
     let a = s.args in
-    let line = c.before.before.line_rule_lem.ensures (axis_of a.height a.ctb [] 0 a.ratio) refl refl in
-    c.chroma-rows.ensures ∙ rw (line, c.before.bottom-distance.ensures)
+    let line = c.before.before.line_rule.ensures (axis_of a.height a.ctb [] 0 a.ratio) refl refl in
+    c.chroma_rows.ensures ∙ rw (line, c.before.bottom_distance.ensures)
 
 pub rows_at_spec : {M : Type 1} → statement M
 rows_at_spec =

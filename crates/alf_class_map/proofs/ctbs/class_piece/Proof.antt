@@ -13,32 +13,32 @@ use Rattle.alf_class_map.proofs.ClassInputs.{own_map}
 use Rattle.alf_class_map.proofs.ctbs.class_piece.Statement.{statement}
 use Rattle.alf_class_map.proofs.ctbs.class_piece.Tie as tie
 
-copy-piece-requires : tie.Need-copy-piece-requires
+copy-piece-requires : tie.Need-copy_piece-requires
 copy-piece-requires c κs =
     let s : tie.Start = search rules in
-    let across = s.pre.1.numbers in
-    let down = s.pre.2.numbers in (
+    let across = s.requires.1.numbers in
+    let down = s.requires.2.numbers in (
       across,
       down.low,
       down.filled,
       down.high,
-      rows_fit _ down s.pre.0.luma_length,
-      copy_fits across down s.pre.0.rooms.copy_room,
+      rows_fit _ down s.requires.0.luma_length,
+      copy_fits across down s.requires.0.rooms.copy_room,
     )
 
 -- what the function is given
-abbrev start : tie.After-copy-piece → tie.Start
+abbrev start : tie.After-copy_piece → tie.Start
 start c = search rules
 
 -- the copy has room
-room : (c : tie.After-copy-piece) → let a = (start c).args in copy_length a.columns a.rows ≤ length a.copy.now
+room : (c : tie.After-copy_piece) → let a = (start c).args in copy_length a.columns a.rows ≤ length a.copy.now
 room c = copy_fits (start c).requires.1.numbers (start c).requires.2.numbers (start c).requires.0.rooms.copy_room
 
-piece-classes-requires : tie.Need-piece-classes-requires
+piece-classes-requires : tie.Need-piece_classes-requires
 piece-classes-requires c κs =
-    let f : tie.After-copy-piece = search rules in
-    let copies = f.copy-piece.ensures in
-    let pre = (start f).pre in (
+    let f : tie.After-copy_piece = search rules in
+    let copies = f.copy_piece.ensures in
+    let pre = (start f).requires in (
       rw (paint_of copies).len pre.0.rooms,
       pre.1,
       pre.2,
@@ -48,13 +48,13 @@ piece-classes-requires c κs =
 
 returns : tie.Need-returns
 returns c =
-    let f : tie.After-copy-piece = search rules in
-    let classed : tie.After-piece-classes = search rules in
-    let pre = (start f).pre in
-    let written = rw ((blocks pre.1).last, (blocks pre.2).last) at classed.piece-classes.ensures in
+    let f : tie.After-copy_piece = search rules in
+    let classed : tie.After-piece_classes = search rules in
+    let pre = (start f).requires in
+    let written = rw ((blocks pre.1).last, (blocks pre.2).last) at classed.piece_classes.ensures in
     λ l ctb of across down.
     paint_is (paint_same (paint_of written) (λ k h. refl)
-    (λ k h. class_same of pre.0.rooms.picture.grid across down _ _ _ f.copy-piece.ensures (room f) k))
+    (λ k h. class_same of pre.0.rooms.picture.grid across down _ _ _ f.copy_piece.ensures (room f) k))
 
 pub class_piece_spec : {M : Type 1} → statement M
 class_piece_spec =

@@ -9,8 +9,8 @@ use Rattle.alf_classify.proofs.ColumnSums.{four_sums}
 use Rattle.alf_classify.proofs.blocks.block_class.Statement.{statement}
 use Rattle.alf_classify.proofs.blocks.block_class.Tie as tie
 
-number_small : (c : tie.After-class-of-sums) → class_number c.class-of-sums.result < 128
-number_small c = rw c.class-of-sums.ensures (class_small _ _ _)
+number_small : (c : tie.After-class_of_sums-class) → class_number c.class_of_sums-class.result < 128
+number_small c = rw c.class_of_sums-class.ensures (class_small _ _ _)
 
 returns : tie.Need-returns
 returns c =
@@ -20,10 +20,10 @@ returns c =
     let second = third.before in
     let first = second.before in
     ap class_number
-    (class.class-of-sums.ensures
+    (class.class_of_sums-class.ensures
     ∙ ap (class_of_sums _ _)
-    (four_sums _ _ _ _ _ first.block-sum.ensures.0 second.block-sum2.ensures.0 third.block-sum3.ensures.0
-    fourth.block-sum4.ensures.0))
+    (four_sums _ _ _ _ _ first.block_sum.ensures.0 second.block_sum-2.ensures.0 third.block_sum-3.ensures.0
+    fourth.block_sum-4.ensures.0))
 
 pub block_class_spec : {M : Type 1} → statement M
 block_class_spec =

@@ -15,25 +15,25 @@ use Rattle.alf_classify.proofs.blocks.class_row.Statement.{statement}
 use Rattle.alf_classify.proofs.blocks.class_row.Tie as tie
 
 -- what the function is given, from the sums of columns in the first direction
-abbrev start : tie.After-column-sums → tie.Start
+abbrev start : tie.After-column_sums → tie.Start
 start c = search rules
 
 returns : tie.Need-returns
 returns c =
     let run = c.before.before in
-    let fourth : tie.After-column-sums4 = search rules in
+    let fourth : tie.After-column_sums-4 = search rules in
     let third = fourth.before.before.before in
     let second = third.before.before.before in
     let first = second.before.before.before in
     let s = start first in
     let a = s.args in
-    let v = paint_of first.column-sums.ensures in
-    let h = paint_of second.column-sums2.ensures in
-    let d0 = paint_of third.column-sums3.ensures in
-    let d1 = paint_of fourth.column-sums4.ensures in
-    let few = s.pre.0 in
+    let v = paint_of first.column_sums.ensures in
+    let h = paint_of second.column_sums-2.ensures in
+    let d0 = paint_of third.column_sums-3.ensures in
+    let d1 = paint_of fourth.column_sums-4.ensures in
+    let few = s.requires.0 in
     paint_is
-    (paint_same (paint_of run.class-run.ensures) (λ k l. refl) (λ k l t.
+    (paint_same (paint_of run.class_run.ensures) (λ k l. refl) (λ k l t.
     let f = run_facts a.at a.count k t in
     ap (λ (z : Sums). class_number (class_of_sums a.depth a.window.factor z))
     (sums_of_block _ _ _ (4 * a.count + 3) (4 * (k - a.at)) (omega arith) a.from (omega arith) v h d0 d1)))
@@ -55,7 +55,7 @@ class_row_spec =
     (tie.spec (λ c. search rules) (λ c. search rules) (λ c. refl)
     (λ c κs.
     let s : tie.Start = search rules in
-    let p = s.pre in
+    let p = s.requires in
     let f = row_fits _ _ _ _ p.0 p.8 in
     (p.2, p.3, p.1, f.0, f.1, p.9.0))
     (λ c. search rules) (λ c. refl)
@@ -73,20 +73,20 @@ class_row_spec =
     let p = (start (search rules)).requires in
     let f = row_fits _ _ _ _ p.0 p.8 in
     (p.2, p.3, p.1, f.0, p.8, p.9.3))
-    (λ c. let first : tie.After-column-sums = search rules in sym (paint_of first.column-sums.ensures).len)
-    (λ c. let second : tie.After-column-sums2 = search rules in sym (paint_of second.column-sums2.ensures).len)
-    (λ c. let third : tie.After-column-sums3 = search rules in sym (paint_of third.column-sums3.ensures).len)
-    (λ c. let fourth : tie.After-column-sums4 = search rules in sym (paint_of fourth.column-sums4.ensures).len)
+    (λ c. let first : tie.After-column_sums = search rules in sym (paint_of first.column_sums.ensures).len)
+    (λ c. let second : tie.After-column_sums-2 = search rules in sym (paint_of second.column_sums-2.ensures).len)
+    (λ c. let third : tie.After-column_sums-3 = search rules in sym (paint_of third.column_sums-3.ensures).len)
+    (λ c. let fourth : tie.After-column_sums-4 = search rules in sym (paint_of fourth.column_sums-4.ensures).len)
     (λ c κs.
-    let fourth : tie.After-column-sums4 = search rules in
+    let fourth : tie.After-column_sums-4 = search rules in
     let third = fourth.before.before.before in
     let second = third.before.before.before in
     let first = second.before.before.before in
-    let p = (start first).pre in (
-      in-sums _ _ p.0 (paint_of first.column-sums.ensures).len,
-      in-sums _ _ p.0 (paint_of second.column-sums2.ensures).len,
-      in-sums _ _ p.0 (paint_of third.column-sums3.ensures).len,
-      in-sums _ _ p.0 (paint_of fourth.column-sums4.ensures).len,
+    let p = (start first).requires in (
+      in-sums _ _ p.0 (paint_of first.column_sums.ensures).len,
+      in-sums _ _ p.0 (paint_of second.column_sums-2.ensures).len,
+      in-sums _ _ p.0 (paint_of third.column_sums-3.ensures).len,
+      in-sums _ _ p.0 (paint_of fourth.column_sums-4.ensures).len,
       p.4,
       p.5,
       p.6,

@@ -13,20 +13,20 @@ use Rattle.alf_classify.specs.Windows.{column_sums, column_class}
 use Rattle.alf_classify.proofs.blocks.class_run.Statement.{statement}
 use Rattle.alf_classify.proofs.blocks.class_run.Tie as tie
 
-abbrev invariant-loop : tie.invariant-loop
+abbrev invariant-loop : tie.invariant-loop-m
 invariant-loop v h d0 d1 count factor depth map₀ at m₀ map m = (m ≤ count) × Paint map₀ (between at m) (column_class v h d0 d1 factor depth at) map
 
-abbrev decreases-loop : tie.decreases-loop
+abbrev decreases-loop : tie.decreases-loop-m
 decreases-loop v h d0 d1 count factor depth map₀ at m₀ map m = count - m
 
-loop-again : tie.Need-loop-preserved invariant-loop decreases-loop
+loop-again : tie.Need-loop-m-preserved invariant-loop decreases-loop
 loop-again c =
     let s : tie.Start invariant-loop decreases-loop = search rules in
     let a = s.args in
-    let l = c.before.before.loop in
+    let l = c.before.before.loop-m in
     let here : 4 * l.m ≡ 4 * (a.at + l.m - a.at) = omega arith in (
       omega arith,
-      paint_set _ _ l.invariant.1 (omega arith) (c.block_class_lem.ensures
+      paint_set _ _ l.invariant.1 (omega arith) (c.block_class.ensures
           ∙ ap (λ (k : ℕ). class_number (class_of_sums a.depth a.factor
           (column_sums a.v.now a.h.now a.d0.now a.d1.now k))) here)
           (λ k h. run_more _ _ k),
@@ -39,4 +39,4 @@ class_run_spec =
     (λ c. (omega arith, paint_none (run_none _)))
     (λ c. omega arith) (λ c κs. omega arith) (λ c. omega arith) (λ c. omega arith) (λ c. omega arith) (λ c. omega arith) loop-again
     (λ c. search rules)
-    (λ c. cc (le_antisymm c.before.loop.invariant.0 c.loop-test.false, paint_is c.before.loop.invariant.1)))
+    (λ c. cc (le_antisymm c.before.loop-m.invariant.0 c.loop-m-test.false, paint_is c.before.loop-m.invariant.1)))

@@ -9,8 +9,8 @@ use Rattle.alf_classify.proofs.blocks.row_window.Tie as tie
 returns : tie.Need-returns
 returns c =
     let a = c.before.before.args in
-    let line = c.before.line_rule_lem.ensures (axis_of a.height a.ctb [] 4 1) refl refl in
-    c.window-rows.ensures ∙ rw line
+    let line = c.before.line_rule.ensures (axis_of a.height a.ctb [] 4 1) refl refl in
+    c.window_rows.ensures ∙ rw line
 
 pub row_window_spec : {M : Type 1} → statement M
 row_window_spec =

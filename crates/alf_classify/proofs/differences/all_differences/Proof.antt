@@ -8,15 +8,15 @@ use Rattle.alf_classify.proofs.differences.all_differences.Tie as tie
 returns : tie.Need-returns
 returns c =
     let fourth = c.before.before in
-    let third : tie.After-second-differences3 = search rules in
-    let second : tie.After-second-differences2 = search rules in
-    let first : tie.After-second-differences = search rules in
+    let third : tie.After-second_differences-3 = search rules in
+    let second : tie.After-second_differences-2 = search rules in
+    let first : tie.After-second_differences = search rules in
     let s : tie.Start = search rules in
-    let v = paint_of first.second-differences.ensures in
-    let h = paint_of second.second-differences2.ensures in
-    let d0 = paint_of third.second-differences3.ensures in
-    let d1 = paint_of fourth.second-differences4.ensures in
-    (all_length _ _ _ s.pre.2 s.pre.4 v h d0 d1, all_written _ _ _ s.pre.2 s.pre.4 v h d0 d1)
+    let v = paint_of first.second_differences.ensures in
+    let h = paint_of second.second_differences-2.ensures in
+    let d0 = paint_of third.second_differences-3.ensures in
+    let d1 = paint_of fourth.second_differences-4.ensures in
+    (all_length _ _ _ s.requires.2 s.requires.4 v h d0 d1, all_written _ _ _ s.requires.2 s.requires.4 v h d0 d1)
 
 pub all_differences_spec : {M : Type 1} → statement M
 all_differences_spec =

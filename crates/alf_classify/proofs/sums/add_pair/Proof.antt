@@ -13,28 +13,28 @@ use Rattle.alf_classify.specs.Windows.{pair_added}
 use Rattle.alf_classify.proofs.sums.add_pair.Statement.{statement}
 use Rattle.alf_classify.proofs.sums.add_pair.Tie as tie
 
-abbrev invariant-loop : tie.invariant-loop
+abbrev invariant-loop : tie.invariant-loop-x
 invariant-loop d from pitch n sums₀ x₀ sums x = (x ≤ n) × Paint sums₀ (between 0 x) (pair_added sums₀ d pitch from) sums
 
-abbrev decreases-loop : tie.decreases-loop
+abbrev decreases-loop : tie.decreases-loop-x
 decreases-loop d from pitch n sums₀ x₀ sums x = n - x
 
 -- what is read stands as it was
 unwritten : (c : tie.After-pair invariant-loop decreases-loop)
-    → let l = c.before.before.before.loop in let s : tie.Start invariant-loop decreases-loop = search rules in
+    → let l = c.before.before.before.loop-x in let s : tie.Start invariant-loop decreases-loop = search rules in
     get_or l.sums l.x 0 ≡ get_or s.args.sums.now l.x 0
 unwritten c =
-    let l = c.before.before.before.loop in
+    let l = c.before.before.before.loop-x in
     paint_out l.invariant.1 l.x (omega arith) (never _ (λ t. let f = run_facts 0 l.x l.x t in omega arith))
 
-add-sums : tie.Need-overflow-add-sums invariant-loop decreases-loop
+add-sums : tie.Need-overflow_add-sums invariant-loop decreases-loop
 add-sums c =
     let s : tie.Start invariant-loop decreases-loop = search rules in
-    rw (unwritten c) (search (rules, s.pre.3 c.before.before.before.loop.x (omega arith)))
+    rw (unwritten c) (search (rules, s.requires.3 c.before.before.before.loop-x.x (omega arith)))
 
-loop-again : tie.Need-loop-preserved invariant-loop decreases-loop
+loop-again : tie.Need-loop-x-preserved invariant-loop decreases-loop
 loop-again c =
-    let l = c.before.before.before.loop in (
+    let l = c.before.before.before.loop-x in (
       omega arith,
       paint_set _ _ l.invariant.1 (omega arith) (ap₂ (λ (a b : ℕ). a + b) (unwritten c) c.pair.ensures.0)
           (λ k h. run_next _ k),
@@ -46,6 +46,6 @@ add_pair_spec =
     (tie.spec invariant-loop decreases-loop
     (λ c. (omega arith, paint_none (run_none _)))
     (λ c. omega arith) (λ c. omega arith) (λ c. omega arith)
-    (λ c κs. let s : tie.Start invariant-loop decreases-loop = search rules in (omega arith, λ k l h. s.pre.2 k (omega arith) (omega arith)))
+    (λ c κs. let s : tie.Start invariant-loop decreases-loop = search rules in (omega arith, λ k l h. s.requires.2 k (omega arith) (omega arith)))
     add-sums (λ c. omega arith) (λ c. omega arith) (λ c. omega arith) (λ c. omega arith) loop-again (λ c. search rules)
-    (λ c. cc (le_antisymm c.before.loop.invariant.0 c.loop-test.false, paint_is c.before.loop.invariant.1)))
+    (λ c. cc (le_antisymm c.before.loop-x.invariant.0 c.loop-x-test.false, paint_is c.before.loop-x.invariant.1)))

@@ -13,7 +13,7 @@ returns c =
     let second = third.before.before in
     let first = second.before.before in
     let a = first.before.before.before.args in (
-      (λ t. first.wide.ensures.0 t + second.wide2.ensures.0 t + third.wide3.ensures.0 t + c.wide4.ensures.0 t)
+      (λ t. first.wide.ensures.0 t + second.wide-2.ensures.0 t + third.wide-3.ensures.0 t + c.wide-4.ensures.0 t)
           ∙ sym (four_columns_lem a.sums.now a.at),
       omega arith,
     )

@@ -20,5 +20,5 @@ three_pairs_spec =
     (λ c.
     let s : tie.Start = search rules in
     let a = s.args in
-    (λ t. c.before.before.pair.ensures.0 t + c.before.pair2.ensures.0 t + c.pair3.ensures.0 t)
+    (λ t. c.before.before.pair.ensures.0 t + c.before.pair-2.ensures.0 t + c.pair-3.ensures.0 t)
     ∙ sym (three_pairs_lem a.d.now a.pitch a.k)))

@@ -15,20 +15,20 @@ use Rattle.alf_cross.proofs.TapSums.{rounded-small}
 use Rattle.alf_cross.proofs.kernel.corrected.Statement.{statement}
 use Rattle.alf_cross.proofs.kernel.corrected.Tie as tie
 
-half_is : (c : tie.After-half-levels) → to_z w16 c.half-levels.result ≡ pos c.half-levels.result
+half_is : (c : tie.After-half_levels-half) → to_z w16 c.half_levels-half.result ≡ pos c.half_levels-half.result
 half_is c = back w16 _ (omega arith)
 
-top-is : (c : tie.After-half-levels) → to_z w16 (c.half-levels.result - 1) ≡ pos (c.half-levels.result - 1)
+top-is : (c : tie.After-half_levels-half) → to_z w16 (c.half_levels-half.result - 1) ≡ pos (c.half_levels-half.result - 1)
 top-is c = back w16 _ (omega arith)
 
 curr-is : (s : tie.Start) → to_z w16 s.args.curr ≡ pos s.args.curr
 curr-is s = back w16 _ (omega arith)
 
-low_fits : (c : tie.After-half-levels) → SFits w16 (pos 0 -ℤ pos c.half-levels.result)
-low_fits c = fits_abs (omega (arith, abs_sub (pos 0) (pos c.half-levels.result)))
+low_fits : (c : tie.After-half_levels-half) → SFits w16 (pos 0 -ℤ pos c.half_levels-half.result)
+low_fits c = fits_abs (omega (arith, abs_sub (pos 0) (pos c.half_levels-half.result)))
 
 rounded-is : (c : tie.After-rounded) → to_z w32 (of_z w32 c.rounded.result) ≡ rounded 7 c.before.before.args.sum
-rounded-is c = returned w32 c.rounded.type-inv (simp (words, c.before.before.ranges.sum) at c.rounded.ensures)
+rounded-is c = returned w32 c.rounded.type_inv (simp (words, c.before.before.ranges.sum) at c.rounded.ensures)
 
 rounded-fits : (s : tie.Start) → SFits w16 (rounded 7 s.args.sum)
 rounded-fits s = fits_abs (omega (arith, rounded-small s.args.sum s.requires.1))
@@ -37,11 +37,11 @@ rounded-fits s = fits_abs (omega (arith, rounded-small s.args.sum s.requires.1))
 abbrev clipped : tie.Start → ℤ
 clipped s = let a = s.args in clip3 (neg_ℤ (pos (2 ^ (a.depth - 1)))) (pos (2 ^ (a.depth - 1) - 1)) (rounded 7 a.sum)
 
-change-is : (c : tie.After-clip16) → to_z w16 (of_z w16 c.clip16.result) ≡ clipped c.before.before.before
+change-is : (c : tie.After-clip16-change) → to_z w16 (of_z w16 c.clip16-change.result) ≡ clipped c.before.before.before
 change-is c =
     let h = c.before.before in
-    let e = simp (rounded-is c.before, half_is h, top-is h, words, low_fits h, rounded-fits h.before) at c.clip16.ensures in
-    returned w16 c.clip16.type-inv (simp h.half-levels.ensures.0 at (simp +ℤ_idl at e))
+    let e = simp (rounded-is c.before, half_is h, top-is h, words, low_fits h, rounded-fits h.before) at c.clip16-change.ensures in
+    returned w16 c.clip16-change.type_inv (simp h.half_levels-half.ensures.0 at (simp +ℤ_idl at e))
 
 moved-fits : (s : tie.Start) → SFits w16 (pos s.args.curr +ℤ clipped s)
 moved-fits s =

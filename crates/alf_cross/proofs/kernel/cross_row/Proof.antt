@@ -20,23 +20,23 @@ use Rattle.alf_cross.proofs.kernel.cross_row.Tie as tie
 abbrev signed : List ℕ → List ℤ
 signed = map (to_z w16)
 
-abbrev invariant-loop : tie.invariant-loop
+abbrev invariant-loop : tie.invariant-loop-x
 invariant-loop split s f0 f1 f2 f3 f4 f5 f6 depth chroma from n output₀ x₀ output x =
     (x ≤ n) × Paint output₀ (between from x)
     (row_sample split s (signed (f0 ∷ f1 ∷ f2 ∷ f3 ∷ f4 ∷ f5 ∷ f6 ∷ [])) depth chroma from) output
 
-abbrev decreases-loop : tie.decreases-loop
+abbrev decreases-loop : tie.decreases-loop-x
 decreases-loop split s f0 f1 f2 f3 f4 f5 f6 depth chroma from n output₀ x₀ output x = n - x
 
 -- what the function is given, seen from the loop
-abbrev start : tie.At-loop invariant-loop decreases-loop → tie.Start invariant-loop decreases-loop
+abbrev start : tie.At-loop-x invariant-loop decreases-loop → tie.Start invariant-loop decreases-loop
 start looped = let entered = looped.before.before in entered.before.before
 
-loop-again : tie.Need-loop-preserved invariant-loop decreases-loop
+loop-again : tie.Need-loop-x-preserved invariant-loop decreases-loop
 unfolding row_sample
 loop-again c =
     let looped = c.before.before.before in
-    let l = looped.loop in
+    let l = looped.loop-x in
     let from = (start looped).args.from in
     let own : from + l.x - from ≡ l.x = omega arith in (
       omega arith,
@@ -52,17 +52,17 @@ cross_row_spec =
     (λ c κs.
     let looped = c.before.before in
     let s = start looped in (
-      reads_less s.pre.0 (omega arith),
-      rw (taps_back s.pre.1) s.pre.1,
-      s.pre.4 _,
-      s.pre.2,
-      s.pre.3,
+      reads_less s.requires.0 (omega arith),
+      rw (taps_back s.requires.1) s.requires.1,
+      s.requires.4 _,
+      s.requires.2,
+      s.requires.3,
     ))
     (λ c. omega arith) (λ c. omega arith)
-    (λ c. omega (arith, c.before.before.before.loop.invariant.1.len))
+    (λ c. omega (arith, c.before.before.before.loop-x.invariant.1.len))
     (λ c. omega arith) (λ c. omega arith)
     loop-again (λ c. search rules)
     (λ c.
     let s = start c.before in
-    let l = c.before.loop in
-    rw (le_antisymm l.invariant.0 c.loop-test.false, taps_back s.pre.1) at (paint_is l.invariant.1)))
+    let l = c.before.loop-x in
+    rw (le_antisymm l.invariant.0 c.loop-x-test.false, taps_back s.requires.1) at (paint_is l.invariant.1)))

@@ -15,15 +15,15 @@ use Rattle.alf_cross.proofs.PieceSamples.{sample_same}
 use Rattle.alf_cross.proofs.piece.filter_piece.Statement.{statement}
 use Rattle.alf_cross.proofs.piece.filter_piece.Tie as tie
 
-copy-piece-requires : tie.Need-copy-piece-requires
+copy-piece-requires : tie.Need-copy_piece-requires
 copy-piece-requires c κs =
     let s : tie.Start = search rules in
-    let across = s.pre.1.numbers in
-    let down = s.pre.2.numbers in
-    (across, down.low, down.filled, down.high, rows_fit _ down s.pre.0.luma_length, copy_fits across down s.pre.0.copy_room)
+    let across = s.requires.1.numbers in
+    let down = s.requires.2.numbers in
+    (across, down.low, down.filled, down.high, rows_fit _ down s.requires.0.luma_length, copy_fits across down s.requires.0.copy_room)
 
 -- what the function is given, seen from the copy
-abbrev start : tie.After-copy-piece → tie.Start
+abbrev start : tie.After-copy_piece → tie.Start
 start copied = let entered = copied.before.before in let borrowed = entered.before.before.before in borrowed.before.before.before
 
 -- the copy has room, and the split copy
@@ -38,77 +38,77 @@ room s =
 even : (s : tie.Start) → pitch s.args.columns % 2 ≡ 0
 even s = let across = s.requires.1 in let filled = across.numbers.filled in omega (arith, across.start4, across.end4)
 
-split-rows-requires : tie.Need-split-rows-requires
+split-rows-requires : tie.Need-split_rows-requires
 split-rows-requires c κs =
-    let copied : tie.After-copy-piece = search rules in
+    let copied : tie.After-copy_piece = search rules in
     let s = start copied in
     let long : tie.After-extent = search rules in
-    let high : tie.After-extent2 = search rules in
-    rw (long.extent.ensures, high.extent2.ensures)
-    (even s, rw (paint_of copied.copy-piece.ensures).len (room s).0, (room s).1)
+    let high : tie.After-extent-then-sub_width-eq2 = search rules in
+    rw (long.extent.ensures, high.extent-then-sub_width-eq2.ensures)
+    (even s, rw (paint_of copied.copy_piece.ensures).len (room s).0, (room s).1)
 
-piece-rows-requires : tie.Need-piece-rows-requires
+piece-rows-requires : tie.Need-piece_rows-requires
 piece-rows-requires c κs =
-    let copied : tie.After-copy-piece = search rules in
+    let copied : tie.After-copy_piece = search rules in
     let s = start copied in
-    let done : tie.After-split-rows = search rules in
+    let done : tie.After-split_rows = search rules in
     let long : tie.After-extent = search rules in
-    let high : tie.After-extent2 = search rules in
-    let copies = copied.copy-piece.ensures in
-    let split = rw (long.extent.ensures, high.extent2.ensures) at done.split_rows.ensures in (
-      s.pre.0.planes,
-      s.pre.1,
-      s.pre.2,
+    let high : tie.After-extent-then-sub_width-eq2 = search rules in
+    let copies = copied.copy_piece.ensures in
+    let split = rw (long.extent.ensures, high.extent-then-sub_width-eq2.ensures) at done.split_rows.ensures in (
+      s.requires.0.planes,
+      s.requires.1,
+      s.requires.2,
       split_small half (omega arith) (even s) split
           (record {
             room = rw (paint_of copies).len (room s).0;
             small =
-                copy_small _ _ _ _ _ _ _ copies (room s).0 4096 s.pre.0.luma_samples;
+                copy_small _ _ _ _ _ _ _ copies (room s).0 4096 s.requires.0.luma_samples;
           })
-          (omega (arith, (room s).1, c.before.before.before.split.given)),
+          (omega (arith, (room s).1, c.before.before.split-1.given)),
     )
 
-piece-rows-requires-2 : tie.Need-piece-rows-requires-2
+piece-rows-requires-2 : tie.Need-piece_rows-requires-else-sub_width-eq2
 piece-rows-requires-2 c κs =
-    let copied : tie.After-copy-piece = search rules in
+    let copied : tie.After-copy_piece = search rules in
     let s = start copied in
-    let copies = copied.copy-piece.ensures in (
-      s.pre.0.planes,
-      s.pre.1,
-      s.pre.2,
+    let copies = copied.copy_piece.ensures in (
+      s.requires.0.planes,
+      s.requires.1,
+      s.requires.2,
       record {
         room = rw (paint_of copies).len (room s).0;
         small =
-            copy_small _ _ _ _ _ _ _ copies (room s).0 4096 s.pre.0.luma_samples;
+            copy_small _ _ _ _ _ _ _ copies (room s).0 4096 s.requires.0.luma_samples;
       },
     )
 
-returns : tie.Need-returns
+returns : tie.Need-returns-then-sub_width-eq2
 returns c =
-    let copied : tie.After-copy-piece = search rules in
+    let copied : tie.After-copy_piece = search rules in
     let s = start copied in
-    let done : tie.After-split-rows = search rules in
+    let done : tie.After-split_rows = search rules in
     let long : tie.After-extent = search rules in
-    let high : tie.After-extent2 = search rules in
-    let step : tie.After-sub-width = search rules in
-    let split = rw (long.extent.ensures, high.extent2.ensures, ← long.before.before.if1.taken, step.sub-width.ensures.0) at
+    let high : tie.After-extent-then-sub_width-eq2 = search rules in
+    let step : tie.After-sub_width = search rules in
+    let split = rw (long.extent.ensures, high.extent-then-sub_width-eq2.ensures, ← long.before.if-sub_width-eq2.true, step.sub_width.ensures.0) at
     done.split_rows.ensures in
     λ i ctb component of luma chroma filter across down.
-    paint_is (paint_same (paint_of c.before.before.piece-rows.ensures) (λ k h. refl)
-    (λ k h. sample_same of s.pre.0.planes.picture.grid filter across down luma chroma _ _ _ copied.copy-piece.ensures (room s).0
+    paint_is (paint_same (paint_of c.before.before.piece_rows.ensures) (λ k h. refl)
+    (λ k h. sample_same of s.requires.0.planes.picture.grid filter across down luma chroma _ _ _ copied.copy_piece.ensures (room s).0
     split k))
 
-returns-2 : tie.Need-returns-2
+returns-2 : tie.Need-returns-else-sub_width-eq2
 returns-2 c =
-    let copied : tie.After-copy-piece = search rules in
+    let copied : tie.After-copy_piece = search rules in
     let s = start copied in
-    let step : tie.After-sub-width = search rules in
-    let done : tie.After-piece-rows2 = search rules in
+    let step : tie.After-sub_width = search rules in
+    let done : tie.After-piece_rows-else-sub_width-eq2 = search rules in
     λ i ctb component of luma chroma filter across down.
-    paint_is (paint_same (paint_of done.piece-rows2.ensures) (λ k h. refl)
-    (λ k h. sample_same of s.pre.0.planes.picture.grid filter across down luma chroma _ _ _ copied.copy-piece.ensures (room s).0
-    (unsplit _ _ _ _ (λ (e : sub_width s.args.picture ≡ 2). done.before.before.before.if1.left
-    (step.sub-width.ensures.0 ∙ e))) k))
+    paint_is (paint_same (paint_of done.piece_rows-else-sub_width-eq2.ensures) (λ k h. refl)
+    (λ k h. sample_same of s.requires.0.planes.picture.grid filter across down luma chroma _ _ _ copied.copy_piece.ensures (room s).0
+    (unsplit _ _ _ _ (λ (e : sub_width s.args.picture ≡ 2). done.before.before.if-sub_width-eq2.false
+    (step.sub_width.ensures.0 ∙ e))) k))
 
 pub filter_piece_spec : {M : Type 1} → statement M
 filter_piece_spec =

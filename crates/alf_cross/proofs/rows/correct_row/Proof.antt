@@ -9,17 +9,17 @@ use Rattle.alf_cross.proofs.rows.correct_row.Tie as tie
 small : (s : tie.Start) → SmallTaps (seven s.args.filters.now)
 small s = seven-small s.args.filters.now s.requires.2
 
-cross-row-requires : tie.Need-cross-row-requires
+cross-row-requires : tie.Need-cross_row-requires
 cross-row-requires c κs =
     let start : tie.Start = search rules in
-    let p = start.pre in
+    let p = start.requires in
     (p.0, rw (taps_back (small start)) (small start), p.3, p.4, p.5, p.6, p.7)
 
 returns : tie.Need-returns
 returns c =
     let start : tie.Start = search rules in
-    let filtered : tie.After-cross-row = search rules in
-    rw (taps_back (small start)) at filtered.cross-row.ensures
+    let filtered : tie.After-cross_row = search rules in
+    rw (taps_back (small start)) at filtered.cross_row.ensures
 
 pub correct_row_spec : {M : Type 1} → statement M
 correct_row_spec =

@@ -16,4 +16,4 @@ rows_at_spec =
     (λ c κs. search rules)
     (λ c.
     let a = c.before.before.args in
-    rw (c.before.line_rule_lem.ensures (axis_of a.height a.ctb [] 4 1) refl refl) at c.cross-rows.ensures))
+    rw (c.before.line_rule.ensures (axis_of a.height a.ctb [] 4 1) refl refl) at c.cross_rows.ensures))

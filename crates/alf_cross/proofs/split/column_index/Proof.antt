@@ -22,5 +22,5 @@ column_index_spec =
     (tie.spec
     (λ c. omega (arith, second c.before))
     (λ c. omega (arith, second c.before))
-    (λ c. rw c.if1.true)
-    (λ c. simp (ne_eqb c.before.args.step 2 c.if1.false)))
+    (λ c. rw c.if-step-eq2.true)
+    (λ c. simp (ne_eqb c.before.args.step 2 c.if-step-eq2.false)))

@@ -9,18 +9,18 @@ use Rattle.alf_cross.proofs.SplitColumns.{others, row_more}
 use Rattle.alf_cross.proofs.split.split_row.Statement.{statement}
 use Rattle.alf_cross.proofs.split.split_row.Tie as tie
 
-abbrev invariant-loop : tie.invariant-loop
+abbrev invariant-loop : tie.invariant-loop-i
 invariant-loop copy pitch at split₀ half i₀ split i =
     (i ≤ half) × (length split ≡ length split₀) × SplitRow copy split pitch 2 at (2 * i)
     × ((k : ℕ) → k < at → get_or split k 0 ≡ get_or split₀ k 0)
 
-abbrev decreases-loop : tie.decreases-loop
+abbrev decreases-loop : tie.decreases-loop-i
 decreases-loop copy pitch at split₀ half i₀ split i = half - i
 
-loop-again : tie.Need-loop-preserved invariant-loop decreases-loop
+loop-again : tie.Need-loop-i-preserved invariant-loop decreases-loop
 loop-again c =
     let looped = c.before.before.before in
-    let l = looped.loop in
+    let l = looped.loop-i in
     let a = looped.before.args in
     let room : a.at + a.pitch ≤ length l.split = omega arith in
     let inside : l.i < a.pitch / 2 = omega arith in (
@@ -33,7 +33,7 @@ loop-again c =
 
 returns : tie.Need-returns invariant-loop decreases-loop
 returns c =
-    let l = c.before.loop in
+    let l = c.before.loop-i in
     let all : 2 * l.i ≡ c.before.before.args.pitch = omega arith in
     (rw all at l.invariant.2, l.invariant.3)
 

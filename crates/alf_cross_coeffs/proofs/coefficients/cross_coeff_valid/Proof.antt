@@ -11,4 +11,4 @@ cross_coeff_valid_spec =
     (tie.spec (λ c κs. search rules)
     (λ c.
     let s = c.before in
-    rw (c.magnitude.ensures, to_z-of_z s.ranges.coefficient) (one_bit_lem s.args.coefficient)))
+    rw (c.magnitude-n.ensures, to_z-of_z s.ranges.coefficient) (one_bit_lem s.args.coefficient)))

@@ -14,10 +14,10 @@ use Rattle.alf_cross_coeffs.proofs.coefficients.magnitude.Tie as tie
 wide : (s : tie.Start) → SFits w32 s.args.coefficient
 wide s = sfits_widen tt s.ranges.coefficient
 
-negative : (c : tie.Then1) → lt_z c.before.args.coefficient (pos 0) ≡ true
-negative c = let s = c.before in simp (to_z-of_z, s.ranges.coefficient, wide s) at c.if1.true
+negative : (c : tie.Then-wide-lt0) → lt_z c.before.args.coefficient (pos 0) ≡ true
+negative c = let s = c.before in simp (to_z-of_z, s.ranges.coefficient, wide s) at c.if-wide-lt0.true
 
-negated : (c : tie.Then1) → SFits w32 (pos 0 -ℤ c.before.args.coefficient)
+negated : (c : tie.Then-wide-lt0) → SFits w32 (pos 0 -ℤ c.before.args.coefficient)
 negated c = let s = c.before in opposite_fits s.args.coefficient tt s.ranges.coefficient (negative c)
 
 pub magnitude_spec : {M : Type 1} → statement M
@@ -36,5 +36,5 @@ magnitude_spec =
     (λ c.
     let s = c.before in
     simp (to_z-of_z, s.ranges.coefficient, wide s)
-    (not-below s.args.coefficient (simp (to_z-of_z, s.ranges.coefficient, wide s) at c.if1.false), Fits-nat_abs tt (wide s)))
+    (not-below s.args.coefficient (simp (to_z-of_z, s.ranges.coefficient, wide s) at c.if-wide-lt0.false), Fits-nat_abs tt (wide s)))
     (λ c. let s = c.before in simp (to_z-of_z, s.ranges.coefficient, wide s)))

@@ -8,4 +8,4 @@ pub cross_filters_valid_spec : {M : Type 1} → statement M
 cross_filters_valid_spec =
     tie.close
     (tie.spec (λ c κs. search rules)
-    (λ c. rw c.first-offender.ensures (search_all c.before.args.bank.now)))
+    (λ c. rw c.first_offender.ensures (search_all c.before.args.bank.now)))

@@ -7,10 +7,10 @@ use Rattle.alf_cross_coeffs.proofs.Searches.{search_stop, search_step, search_en
 use Rattle.alf_cross_coeffs.proofs.offenders.first_offender.Statement.{statement}
 use Rattle.alf_cross_coeffs.proofs.offenders.first_offender.Tie as tie
 
-abbrev invariant-loop : tie.invariant-loop
+abbrev invariant-loop : tie.invariant-loop-n
 invariant-loop bank from n₀ n = next_offender bank n ≡ next_offender bank from
 
-abbrev decreases-loop : tie.decreases-loop
+abbrev decreases-loop : tie.decreases-loop-n
 decreases-loop bank from n₀ n = 64 - n
 
 pub first_offender_spec : {M : Type 1} → statement M
@@ -20,9 +20,9 @@ first_offender_spec =
     (λ c. refl) (λ c κs. search rules)
     (λ c.
     let turn = c.before.before in
-    search_stop _ turn.loop-test.true c.before.valid-at.ensures c.if1.true ∙ turn.before.loop.invariant)
+    search_stop _ turn.loop-n-test.true c.before.valid_at.ensures c.if-not-valid_at.true-raw ∙ turn.before.loop-n.invariant)
     (λ c. search rules) (λ c. search rules)
     (λ c.
     let turn = c.before.before in
-    sym (search_step _ turn.loop-test.true c.before.valid-at.ensures c.if1.false) ∙ turn.before.loop.invariant)
-    (λ c. search_end _ _ c.loop-test.false ∙ c.before.loop.invariant))
+    sym (search_step _ turn.loop-n-test.true c.before.valid_at.ensures c.if-not-valid_at.false-raw) ∙ turn.before.loop-n.invariant)
+    (λ c. search_end _ _ c.loop-n-test.false ∙ c.before.loop-n.invariant))

@@ -8,5 +8,5 @@ pub next_offender_spec : {M : Type 1} → statement M
 next_offender_spec =
     tie.close
     (tie.spec (λ c κs. search rules) (λ c κs. search rules) (λ c. search rules)
-    (λ c. rw c.cross-filter-at.ensures (at_offender c.before.before.first-offender.ensures c.before.if1.true))
-    (λ c. at_none c.before.first-offender.ensures c.if1.false))
+    (λ c. rw c.cross_filter_at.ensures (at_offender c.before.before.first_offender-n.ensures c.before.if-n-lt64.true))
+    (λ c. at_none c.before.first_offender-n.ensures c.if-n-lt64.false))

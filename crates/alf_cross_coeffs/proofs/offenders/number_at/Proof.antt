@@ -10,4 +10,4 @@ pub number_at_spec : {M : Type 1} → statement M
 number_at_spec =
     tie.close
     (tie.spec (λ c. search rules) (λ c. search rules) (λ c. search rules)
-    (λ c. sym (get_or-eq_default c.before.args.bank.now (pos 0) c.if1.false)))
+    (λ c. sym (get_or-eq_default c.before.args.bank.now (pos 0) c.if-k-bank.false)))

@@ -19,20 +19,20 @@ use Rattle.alf_cross_coeffs.proofs.offenders.valid_at.Tie as tie
 abbrev test : List ℤ → ℕ → ℕ → Bool
 test bank n j = cross_coeff_valid (get_or bank (752 * (n / 8) + cross_number (n % 8 / 4) (n % 4) j) (pos 0))
 
-abbrev invariant-loop : tie.invariant-loop
+abbrev invariant-loop : tie.invariant-loop-j
 invariant-loop bank n start j₀ j = Passed 7 (test bank n) j
 
-abbrev decreases-loop : tie.decreases-loop
+abbrev decreases-loop : tie.decreases-loop-j
 decreases-loop bank n start j₀ j = 7 - j
 
 -- the turn's test is that of its coefficient
-tested : (c : tie.After-cross-coeff-valid invariant-loop decreases-loop) → let l = c.before.before.before in
+tested : (c : tie.After-cross_coeff_valid invariant-loop decreases-loop) → let l = c.before.before.before in
     let s = l.before in
-    c.cross-coeff-valid.result ≡ test s.args.bank.now s.args.n l.loop.j
+    c.cross_coeff_valid.result ≡ test s.args.bank.now s.args.n l.loop-j.j
 tested c =
     let l = c.before.before.before in
-    rw (← place_of l.before.args.n l.loop.j, ← c.before.number_at.ensures)
-    (rw (to_z-of_z (record { sfits = c.before.number_at.type-inv })) at c.cross-coeff-valid.ensures)
+    rw (← place_of l.before.args.n l.loop-j.j, ← c.before.number_at.ensures)
+    (rw (to_z-of_z (record { sfits = c.before.number_at.type_inv })) at c.cross_coeff_valid.ensures)
 
 pub valid_at_spec : {M : Type 1} → statement M
 unfolding valid_at cross_filter_valid
@@ -42,7 +42,7 @@ valid_at_spec =
     (λ c. search rules) (λ c. search rules) (λ c. search rules) (λ c. search rules)
     (λ c. search scans)
     (λ c. search rules) (λ c κs. search rules) (λ c κs. search rules)
-    (λ c. let l = c.before.before.before in scan_stop l.before.loop.invariant l.loop-test.true (tested c.before) c.if1.true)
+    (λ c. let l = c.before.before.before in scan_stop l.before.loop-j.invariant l.loop-j-test.true (tested c.before) c.if-not-cross_coeff_valid.true-raw)
     (λ c. search rules) (λ c. search rules)
-    (λ c. let l = c.before.before.before in scan_step l.before.loop.invariant l.loop-test.true (tested c.before) c.if1.false)
-    (λ c. scan_done c.before.loop.invariant c.loop-test.false))
+    (λ c. let l = c.before.before.before in scan_step l.before.loop-j.invariant l.loop-j-test.true (tested c.before) c.if-not-cross_coeff_valid.false-raw)
+    (λ c. scan_done c.before.loop-j.invariant c.loop-j-test.false))

@@ -10,74 +10,74 @@ use Rattle.alf_ctb.proofs.pieces.filter_piece.Statement.{statement}
 use Rattle.alf_ctb.proofs.pieces.filter_piece.Tie as tie
 
 -- what the function is given, from each arm of its match
-abbrev luma-start : tie.After-enum-told → tie.Start
+abbrev luma-start : tie.In-Luma → tie.Start
 luma-start c = search rules
 
-abbrev chroma-start : tie.After-enum-told2 → tie.Start
+abbrev chroma-start : tie.In-Chroma → tie.Start
 chroma-start c = search rules
 
-abbrev cross-start : tie.After-enum-told3 → tie.Start
+abbrev cross-start : tie.In-CrossComponent → tie.Start
 cross-start c = search rules
 
-filter-piece-requires : tie.Need-filter-piece-requires
+filter-piece-requires : tie.Need-filter_piece-requires
 filter-piece-requires c κs =
-    let f : tie.After-enum-told = search rules in
+    let f : tie.In-Luma = search rules in
     let s = luma-start f in
-    (luma_work _ s.pre.0 s.pre.1 s.pre.2 f.enum_told.given.1, s.pre.3, s.pre.4)
+    (luma_work _ s.requires.0 s.requires.1 s.requires.2 f.in-Luma.is, s.requires.3, s.requires.4)
 
-filter-piece-requires-2 : tie.Need-filter-piece-requires-2
+filter-piece-requires-2 : tie.Need-filter_piece-requires-in-Chroma
 filter-piece-requires-2 c κs =
-    let f : tie.After-enum-told2 = search rules in
+    let f : tie.In-Chroma = search rules in
     let down = c.before.before.before in
     let across : tie.After-scaled = search rules in
     let s = chroma-start f in
     let ratios = chroma_ratios s.args.picture in
     rw (
       across.scaled.ensures,
-      across.before.sub-width.ensures.0,
-      down.scaled2.ensures,
-      down.before.sub-height.ensures.0,
+      across.before.sub_width.ensures.0,
+      down.scaled-in-Chroma.ensures,
+      down.before.sub_height.ensures.0,
     ) (
-      chroma_work _ s.pre.0 s.pre.1 s.pre.2 f.enum-told2.given.1,
-      scaled_in ratios.0 s.pre.3,
-      scaled_in ratios.1 s.pre.4,
+      chroma_work _ s.requires.0 s.requires.1 s.requires.2 f.in-Chroma.is,
+      scaled_in ratios.0 s.requires.3,
+      scaled_in ratios.1 s.requires.4,
     )
 
-filter-piece-requires-3 : tie.Need-filter-piece-requires-3
+filter-piece-requires-3 : tie.Need-filter_piece-requires-in-CrossComponent
 filter-piece-requires-3 c κs =
     let f = c.before.before.before in
     let s = cross-start f in
-    (cross_work _ s.pre.0 s.pre.1 s.pre.2 f.enum-told3.given.1, s.pre.3, s.pre.4)
+    (cross_work _ s.requires.0 s.requires.1 s.requires.2 f.in-CrossComponent.is, s.requires.3, s.requires.4)
 
-returns : tie.Need-returns
+returns : tie.Need-returns-in-Luma
 returns c =
-    let f : tie.After-enum-told = search rules in
-    let filtered : tie.After-filter-piece = search rules in
-    let done = filtered.filter-piece.ensures in
-    (luma-filtered _ _ _ _ _ _ _ _ _ _ f.enum_told.given.1 done.0, done.1)
+    let f : tie.In-Luma = search rules in
+    let filtered : tie.After-filter_piece = search rules in
+    let done = filtered.filter_piece.ensures in
+    (luma-filtered _ _ _ _ _ _ _ _ _ _ f.in-Luma.is done.0, done.1)
 
-returns-2 : tie.Need-returns-2
+returns-2 : tie.Need-returns-in-Chroma
 returns-2 c =
-    let f : tie.After-enum-told2 = search rules in
+    let f : tie.In-Chroma = search rules in
     let across : tie.After-scaled = search rules in
-    let down : tie.After-scaled2 = search rules in
-    let filtered : tie.After-filter-piece2 = search rules in
+    let down : tie.After-scaled-in-Chroma = search rules in
+    let filtered : tie.After-filter_piece-in-Chroma = search rules in
     let s = chroma-start f in
     let a = s.args in
-    let done = filtered.filter-piece2.ensures in (
-      chroma-filtered _ _ _ _ _ _ _ _ _ _ f.enum-told2.given.1 s.pre.3 s.pre.4
-          (across.scaled.ensures ∙ ap (λ (r : ℕ). scaled r a.columns) across.before.sub-width.ensures.0)
-          (down.scaled2.ensures ∙ ap (λ (r : ℕ). scaled r a.rows) down.before.sub-height.ensures.0) done.0,
+    let done = filtered.filter_piece-in-Chroma.ensures in (
+      chroma-filtered _ _ _ _ _ _ _ _ _ _ f.in-Chroma.is s.requires.3 s.requires.4
+          (across.scaled.ensures ∙ ap (λ (r : ℕ). scaled r a.columns) across.before.sub_width.ensures.0)
+          (down.scaled-in-Chroma.ensures ∙ ap (λ (r : ℕ). scaled r a.rows) down.before.sub_height.ensures.0) done.0,
       done.1,
     )
 
-returns-3 : tie.Need-returns-3
+returns-3 : tie.Need-returns-in-CrossComponent
 returns-3 c =
-    let f : tie.After-enum-told3 = search rules in
-    let filtered : tie.After-filter-piece3 = search rules in
+    let f : tie.In-CrossComponent = search rules in
+    let filtered : tie.After-filter_piece-in-CrossComponent = search rules in
     let s = cross-start f in (
-      cross_filtered _ _ _ _ _ _ _ _ _ _ f.enum-told3.given.1 filtered.filter-piece3.ensures,
-      s.pre.2.spread,
+      cross_filtered _ _ _ _ _ _ _ _ _ _ f.in-CrossComponent.is filtered.filter_piece-in-CrossComponent.ensures,
+      s.requires.2.spread,
     )
 
 pub filter_piece_spec : {M : Type 1} → statement M

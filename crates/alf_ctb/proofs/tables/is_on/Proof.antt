@@ -11,9 +11,9 @@ pub is_on_spec : {M : Type 1} → statement M
 is_on_spec =
     tie.close
     (tie.spec (λ c. search rules) (λ c κs. search rules) (λ c. search rules)
-    (λ c κs. let s : tie.Start = search rules in (s.pre.1, subst ComponentOf c.before.filter.given.1 s.pre.0))
+    (λ c κs. let s : tie.Start = search rules in (s.requires.1, subst ComponentOf c.in-Chroma.is s.requires.0))
     (λ c. search rules)
-    (λ c κs. let s : tie.Start = search rules in (s.pre.1, subst ComponentOf c.before.filter2.given.1 s.pre.0))
-    (λ c. λ i x same at. c.luma-on.ensures i x same at ∙ ap (λ (f : Filter). is_on f i x) (sym c.before.enum_told.given.1))
-    (λ c. λ i x same at. c.chroma-on.ensures i x same at ∙ ap (λ (f : Filter). is_on f i x) (sym c.before.before.filter.given.1))
-    (λ c. λ i x same at. c.cross-on.ensures i x same at ∙ ap (λ (f : Filter). is_on f i x) (sym c.before.before.filter2.given.1)))
+    (λ c κs. let s : tie.Start = search rules in (s.requires.1, subst ComponentOf c.in-CrossComponent.is s.requires.0))
+    (λ c. λ i x same at. c.luma_on.ensures i x same at ∙ ap (λ (f : Filter). is_on f i x) (sym c.before.in-Luma.is))
+    (λ c. λ i x same at. c.chroma_on.ensures i x same at ∙ ap (λ (f : Filter). is_on f i x) (sym c.before.in-Chroma.is))
+    (λ c. λ i x same at. c.cross_on.ensures i x same at ∙ ap (λ (f : Filter). is_on f i x) (sym c.before.in-CrossComponent.is)))

@@ -11,7 +11,7 @@ returns : tie.Need-returns
 unfolding activity
 returns c =
     let m = c.before.before.multiple.ensures in
-    rw (← m) (c.activity-entry.ensures ∙ ap (λ (n : ℕ). get_or activity_table n 0) c.before.up-to-15.ensures)
+    rw (← m) (c.activity_entry.ensures ∙ ap (λ (n : ℕ). get_or activity_table n 0) c.before.up_to_15.ensures)
 
 pub activity_spec : {M : Type 1} → statement M
 activity_spec =

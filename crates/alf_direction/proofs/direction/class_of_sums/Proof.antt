@@ -3,41 +3,41 @@ use mathlib.Core.Path.{◌≡◌, ◌∙◌, sym}
 use Prim.Native.Nat.{◌<◌}
 use native.Mathlib.Omega.{arith}
 use borrow.Author.Rules.{rules}
-use Rattle.alf_spec.specs.Classes.{larger, hv, dd, diagonal, activity, class_of_sums}
+use Rattle.alf_spec.specs.Classes.{hv, dd, diagonal, class_of_sums}
 use Rattle.alf_direction.proofs.Gradients.{Small, larger-small, activity-small, main_diagonal, main_straight}
 use Rattle.alf_direction.proofs.direction.class_of_sums.Statement.{statement}
 use Rattle.alf_direction.proofs.direction.class_of_sums.Tie as tie
 
-straight-small : (c : tie.After-larger) → Small c.larger.result
-straight-small c = let p = c.before.requires in rw c.larger.ensures (larger-small _ _ 1 3 p.0 p.1 (omega arith) (omega arith))
+straight-small : (c : tie.After-larger-hv) → Small c.larger-hv.result
+straight-small c = let p = c.before.requires in rw c.larger-hv.ensures (larger-small _ _ 1 3 p.0 p.1 (omega arith) (omega arith))
 
-slanted-small : (c : tie.After-larger2) → Small c.larger2.result
+slanted-small : (c : tie.After-larger-dd) → Small c.larger-dd.result
 slanted-small c = let p = c.before.before.requires in
-    rw c.larger2.ensures (larger-small _ _ 0 2 p.2 p.3 (omega arith) (omega arith))
+    rw c.larger-dd.ensures (larger-small _ _ 0 2 p.2 p.3 (omega arith) (omega arith))
 
-level-small : (c : tie.After-activity) → c.activity.result < 5
-level-small c = rw c.activity.ensures (activity-small _ _ _)
+level-small : (c : tie.After-activity-level) → c.activity-level.result < 5
+level-small c = rw c.activity-level.ensures (activity-small _ _ _)
 
 -- where both gradients are known
-abbrev slanted : tie.After-is-diagonal → tie.After-larger2
+abbrev slanted : tie.After-is_diagonal → tie.After-larger-dd
 slanted c = c.before.before.before
 
 -- what the test says of the sums
-tested : (c : tie.After-is-diagonal) → let s = (slanted c).before.before.args.s in c.is-diagonal.result ≡ diagonal (dd s) (hv s)
-tested c = rw (← (slanted c).before.larger.ensures, ← (slanted c).larger2.ensures) c.is-diagonal.ensures
+tested : (c : tie.After-is_diagonal) → let s = (slanted c).before.before.args.s in c.is_diagonal.result ≡ diagonal (dd s) (hv s)
+tested c = rw (← (slanted c).before.larger-hv.ensures, ← (slanted c).larger-dd.ensures) c.is_diagonal.ensures
 
-returns : tie.Need-returns
+returns : tie.Need-returns-then-is_diagonal
 unfolding class_of_sums
 returns c =
     let t = c.before.before in
-    let m = main_diagonal _ (sym (tested t) ∙ c.before.if1.true) in
+    let m = main_diagonal _ (sym (tested t) ∙ c.before.if-is_diagonal.true) in
     cc (m.0, m.1)
 
-returns-2 : tie.Need-returns-2
+returns-2 : tie.Need-returns-else-is_diagonal
 unfolding class_of_sums
 returns-2 c =
     let t = c.before.before in
-    let m = main_straight _ (sym (tested t) ∙ c.before.if1.false) in
+    let m = main_straight _ (sym (tested t) ∙ c.before.if-is_diagonal.false) in
     cc (m.0, m.1)
 
 pub class_of_sums_spec : {M : Type 1} → statement M

@@ -8,4 +8,4 @@ pub is_diagonal_spec : {M : Type 1} → statement M
 unfolding diagonal
 is_diagonal_spec =
     tie.close
-    (tie.spec (λ c. search rules) (λ c. c.product-less.ensures))
+    (tie.spec (λ c. search rules) (λ c. c.product_less.ensures))

@@ -6,4 +6,4 @@ use Rattle.alf_direction.proofs.direction.larger.Tie as tie
 
 pub larger_spec : {M : Type 1} → statement M
 unfolding larger
-larger_spec = tie.close (tie.spec (λ c. simp (lt-ltb _ _ c.if1.true)) (λ c. simp (le-ltb _ _ c.if1.false)))
+larger_spec = tie.close (tie.spec (λ c. simp (lt-ltb _ _ c.if-b-a.true)) (λ c. simp (le-ltb _ _ c.if-b-a.false)))

@@ -46,6 +46,6 @@ pub strength_spec : {M : Type 1} → statement M
 strength_spec =
     tie.close
     (tie.spec (λ c. search rules)
-    (λ c. let s : tie.Start = search rules in strong s.args.g s.pre.0 s.pre.1 c.if1.true)
-    (λ c. let s : tie.Start = search rules in weak s.args.g s.pre.0 s.pre.1 (search rules) c.if2.true)
-    (λ c. let s : tie.Start = search rules in none s.args.g s.pre.0 s.pre.1 (search rules) c.if2.false))
+    (λ c. let s : tie.Start = search rules in strong s.args.g s.requires.0 s.requires.1 c.if-g.true)
+    (λ c. let s : tie.Start = search rules in weak s.args.g s.requires.0 s.requires.1 (search rules) c.if-g-2.true)
+    (λ c. let s : tie.Start = search rules in none s.args.g s.requires.0 s.requires.1 (search rules) c.if-g-2.false))

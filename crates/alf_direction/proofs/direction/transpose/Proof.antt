@@ -6,7 +6,7 @@ use Rattle.alf_direction.proofs.direction.transpose.Statement.{statement}
 use Rattle.alf_direction.proofs.direction.transpose.Tie as tie
 
 returns : tie.Need-returns
-returns c = rw (← shift_kept c.before.args.main 2 (omega arith) (omega arith)) c.transpose-entry.ensures
+returns c = rw (← shift_kept c.before.args.main 2 (omega arith) (omega arith)) c.transpose_entry.ensures
 
 pub transpose_spec : {M : Type 1} → statement M
 transpose_spec =

@@ -8,8 +8,8 @@ use Rattle.alf_direction.proofs.products.product_less.Statement.{statement}
 use Rattle.alf_direction.proofs.products.product_less.Tie as tie
 
 -- what the test says
-narrow : (c : tie.Then1) → let n = c.before.args in (n.a < 2 ^ 16) × (n.b < 2 ^ 16) × (n.c < 2 ^ 16) × (n.d < 2 ^ 16)
-narrow c = let n = c.before.args in four_below (2 ^ 16) n.a n.b n.c n.d c.if1.true
+narrow : (c : tie.Then-a-b) → let n = c.before.args in (n.a < 2 ^ 16) × (n.b < 2 ^ 16) × (n.c < 2 ^ 16) × (n.d < 2 ^ 16)
+narrow c = let n = c.before.args in four_below (2 ^ 16) n.a n.b n.c n.d c.if-a-b.true
 
 pub product_less_spec : {M : Type 1} → statement M
 product_less_spec =
@@ -18,5 +18,5 @@ product_less_spec =
     (λ c. record { fits = (narrow c.before).2 })
     (λ c. record { fits = (narrow c.before).3 })
     (λ c κs. search rules) (λ c κs. search rules) (λ c κs. search rules) (λ c κs. search rules)
-    (λ c. λ i. ltb (c.before.times.ensures.0 i) (c.times2.ensures.0 i))
-    (λ c. c.words-less.ensures ∙ (λ i. ltb (c.before.before.multiply.ensures i) (c.before.multiply2.ensures i))))
+    (λ c. λ i. ltb (c.before.times.ensures.0 i) (c.times-then-a-b.ensures.0 i))
+    (λ c. c.words_less.ensures ∙ (λ i. ltb (c.before.before.multiply.ensures i) (c.before.multiply-else-a-b.ensures i))))

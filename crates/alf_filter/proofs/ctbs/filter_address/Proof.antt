@@ -30,7 +30,7 @@ use Rattle.alf_filter.proofs.ctbs.filter_address.Statement.{statement}
 use Rattle.alf_filter.proofs.ctbs.filter_address.Tie as tie
 
 -- what the function is given
-abbrev start : tie.After-shared-slice-known12 → tie.Start
+abbrev start : tie.After-shared_slice_known-12-1 → tie.Start
 start c =
     let planes = c.before.before.before in
     let tables = planes.before.before.before in
@@ -39,28 +39,28 @@ start c =
     boundaries.before.before.before
 
 -- the CTB's mark
-on : (c : tie.Else1) → let s = start c.before in is_marked s.args.marks.now s.args.k ≡ true
-on c = eq-eqb _ _ c.if1.false
+on : (c : tie.Else-marks-at-ne1) → let s = start c.before in is_marked s.args.marks.now s.args.k ≡ true
+on c = eq-eqb _ _ c.if-marks-at-ne1.false
 
 -- the first return, where it is not marked
-not-marked : tie.Need-returns
-not-marked c = ((λ i given planned. ctb_fails _ _ _ _ _ _ (ne_eqb _ _ c.if1.true)), (start c.before).requires.5.spread)
+not-marked : tie.Need-returns-then-marks-at-ne1
+not-marked c = ((λ i given planned. ctb_fails _ _ _ _ _ _ (ne_eqb _ _ c.if-marks-at-ne1.true)), (start c.before).requires.5.spread)
 
 load-requires : tie.Need-load-requires
 load-requires c κs =
-    let marked : tie.Else1 = search rules in
+    let marked : tie.Else-marks-at-ne1 = search rules in
     let s = start marked.before in
-    let accepted = s.pre.0 in (
+    let accepted = s.requires.0 in (
       accepted.component,
-      accepted.ctbs s.args.k s.pre.1,
+      accepted.ctbs s.args.k s.requires.1,
       accepted.fixed,
-      s.pre.4 s.args.k s.pre.3 (on marked),
+      s.requires.4 s.args.k s.requires.3 (on marked),
       refl,
       zeros 600,
     )
 
 -- what the function is given, from where its filter's numbers are loaded
-abbrev marked : tie.After-load → tie.Else1
+abbrev marked : tie.After-load → tie.Else-marks-at-ne1
 marked c = search rules
 
 abbrev given : tie.After-load → tie.Start
@@ -70,53 +70,53 @@ given c = start (marked c).before
 columns-some : (c : tie.After-load) → 0 < (given c).args.grid.columns
 columns-some c = (given c).requires.0.planes.picture.grid.columns_low
 
-filter-ctb-requires : tie.Need-filter-ctb-requires
+filter-ctb-requires : tie.Need-filter_ctb-requires
 filter-ctb-requires c κs =
-    let down : tie.After-row-axis = search rules in
-    let line : tie.After-walk-line = search rules in
-    let across : tie.After-column-axis = search rules in
+    let down : tie.After-row_axis = search rules in
+    let line : tie.After-walk_line = search rules in
+    let across : tie.After-column_axis = search rules in
     let load : tie.After-load = search rules in
-    let sided : tie.After-sides-at = search rules in
+    let sided : tie.After-sides_at-own_sides = search rules in
     let s = given load in
-    let accepted = s.pre.0 in
+    let accepted = s.requires.0 in
     let picture = accepted.planes.picture in
-    let begins = ctb_in_picture picture.grid s.args.k s.pre.1 in
-    rw (across.column-axis.ensures, down.row-axis.ensures, line.walk-line.ensures) (
+    let begins = ctb_in_picture picture.grid s.args.k s.requires.1 in
+    rw (across.column_axis.ensures, down.row_axis.ensures, line.walk_line.ensures) (
       accepted.planes,
       load.load.ensures.0,
-      s.pre.5,
-      columns_along picture sided.sides-at.result _ accepted.virtual_columns begins.0,
+      s.requires.5,
+      columns_along picture sided.sides_at-own_sides.result _ accepted.virtual_columns begins.0,
       refl,
-      rows_along picture sided.sides-at.result _ (walks s.args.filter) accepted.virtual_rows begins.1,
+      rows_along picture sided.sides_at-own_sides.result _ (walks s.args.filter) accepted.virtual_rows begins.1,
       refl,
     )
 
-filtered : tie.Need-returns-2
+filtered : tie.Need-returns
 filtered c =
-    let called : tie.After-filter-ctb = search rules in
-    let down : tie.After-row-axis = search rules in
-    let line : tie.After-walk-line = search rules in
-    let across : tie.After-column-axis = search rules in
+    let called : tie.After-filter_ctb = search rules in
+    let down : tie.After-row_axis = search rules in
+    let line : tie.After-walk_line = search rules in
+    let across : tie.After-column_axis = search rules in
     let load : tie.After-load = search rules in
-    let sided : tie.After-sides-at = search rules in
+    let sided : tie.After-sides_at-own_sides = search rules in
     let s = given load in
     let f = s.args.filter in
     let g = s.args.grid in
     let k = s.args.k in
     let ctb : Ctb = record { column = k % g.columns; row = k / g.columns } in
-    let accepted = s.pre.0 in
+    let accepted = s.requires.0 in
     let picture = accepted.planes.picture in
-    let done = rw (across.column-axis.ensures, down.row-axis.ensures, line.walk-line.ensures) at called.filter-ctb.ensures in (
+    let done = rw (across.column_axis.ensures, down.row_axis.ensures, line.walk_line.ensures) at called.filter_ctb.ensures in (
       (λ i of planned.
           let ok = layout-accepted f i of.accepted in
           let same = same-picture of in
           let grid : GridOf i.layout.picture g = rw same picture.grid in
-          let sides = planned_sides i.layout grid s.args.sides.now planned k s.pre.1 sided.sides-at.ensures in
-          let own = subst (λ (p : Picture). CtbOf i.layout p ctb sided.sides-at.result) same (ctb-accepted ok sides) in
+          let sides = planned_sides i.layout grid s.args.sides.now planned k s.requires.1 sided.sides_at-own_sides.ensures in
+          let own = subst (λ (p : Picture). CtbOf i.layout p ctb sided.sides_at-own_sides.result) same (ctb-accepted ok sides) in
           let at : address i.layout ctb ≡ k =
           rw (← (grid-columns i.layout _ grid)) (div-add-mod' k g.columns) in
           ctb_passes_lem _ _ _ _ k _ (on (marked load))
-          (ctb-done f i.layout ok g _ _ _ k same picture.grid s.pre.5.output_length
+          (ctb-done f i.layout ok g _ _ _ k same picture.grid s.requires.5.output_length
           (done.0 i ctb own (same-luma of) (same-chroma of) (load.load.ensures.1 i _ (same_tables of at) (same-fixed of))
           (column_pieces own picture.grid (walk_line f) (same_virtual_columns of))
           (row_pieces own picture.grid (walk_line f) (same_virtual_rows of))))),

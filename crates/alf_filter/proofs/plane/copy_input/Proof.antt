@@ -14,23 +14,23 @@ module _ (s : tie.Start) {f : Filter} (e : s.args.filter ≡ f) where
   named = ap (λ (f : Filter). plane_filtered f s.args.luma.now s.args.chroma.now) e
 
   named-length : length (plane_filtered f s.args.luma.now s.args.chroma.now) ≡ length s.args.output.now
-  named-length = ap length (sym named) ∙ s.pre
+  named-length = ap length (sym named) ∙ s.requires
 
 pub copy_input_spec : {M : Type 1} → statement M
 copy_input_spec =
     tie.close
     (tie.spec (λ c. search rules)
-    (λ c κs. let s : tie.Start = search rules in named-length s c.before.enum_told.given.1)
+    (λ c κs. let s : tie.Start = search rules in named-length s c.before.in-Luma.is)
     (λ c. search rules)
-    (λ c κs. let s : tie.Start = search rules in named-length s c.before.enum-told2.given.1)
+    (λ c κs. let s : tie.Start = search rules in named-length s c.before.in-Chroma.is)
     (λ c. search rules)
-    (λ c κs. let s : tie.Start = search rules in named-length s c.before.enum-told3.given.1)
-    (λ c. search rules)
-    (λ c. let s : tie.Start = search rules in let called = c.before.before in
-    called.copy-plane.ensures ∙ sym (named s called.before.before.enum_told.given.1))
+    (λ c κs. let s : tie.Start = search rules in named-length s c.before.in-CrossComponent.is)
     (λ c. search rules)
     (λ c. let s : tie.Start = search rules in let called = c.before.before in
-    called.copy-plane2.ensures ∙ sym (named s called.before.before.enum-told2.given.1))
+    called.copy_plane.ensures ∙ sym (named s called.before.before.in-Luma.is))
     (λ c. search rules)
     (λ c. let s : tie.Start = search rules in let called = c.before.before in
-    called.copy-plane3.ensures ∙ sym (named s called.before.before.enum-told3.given.1)))
+    called.copy_plane-in-Chroma.ensures ∙ sym (named s called.before.before.in-Chroma.is))
+    (λ c. search rules)
+    (λ c. let s : tie.Start = search rules in let called = c.before.before in
+    called.copy_plane-in-CrossComponent.ensures ∙ sym (named s called.before.before.in-CrossComponent.is)))

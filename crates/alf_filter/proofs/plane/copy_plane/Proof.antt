@@ -8,4 +8,4 @@ pub copy_plane_spec : {M : Type 1} → statement M
 copy_plane_spec =
     tie.close
     (tie.spec (λ c κs. search rules) (λ c. search rules)
-    (λ c. let s : tie.Start = search rules in plane_copied _ _ s.pre c.before.before.copy_run.ensures))
+    (λ c. let s : tie.Start = search rules in plane_copied _ _ s.requires c.before.before.copy_run.ensures))

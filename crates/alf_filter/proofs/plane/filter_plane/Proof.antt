@@ -20,20 +20,20 @@ use Rattle.alf_filter.proofs.plane.filter_plane.Tie as tie
 -- the layout and the input that it is given
 abbrev layout : tie.Start → Layout
 layout s =
-    layout_of s.args.picture s.args.virtual-columns.now s.args.virtual-rows.now s.args.tile-columns.now
-    s.args.tile-rows.now s.args.slice-map.now s.args.subpic-map.now s.args.subpic-across.now
+    layout_of s.args.picture s.args.virtual_columns.now s.args.virtual_rows.now s.args.tile_columns.now
+    s.args.tile_rows.now s.args.slice_map.now s.args.subpic_map.now s.args.subpic_across.now
 
 abbrev input : tie.Start → Input
 input s =
-    input_of (layout s) s.args.luma.now s.args.chroma.now s.args.slice_params_lem.now s.args.bank.now
-    s.args.ctb-params.now s.args.ctb-list.now s.args.fixed-filters.now s.args.fixed-map.now
+    input_of (layout s) s.args.luma.now s.args.chroma.now s.args.slice_params.now s.args.bank.now
+    s.args.ctb_params.now s.args.ctb_list.now s.args.fixed_filters.now s.args.fixed_map.now
     (length s.args.output.now)
 
 ok : (s : tie.Start) → AcceptedLayout (layout s)
 ok s = layout-accepted s.args.filter (input s) s.requires
 
 -- what the function is given
-abbrev start : tie.After-slice-known → tie.Start
+abbrev start : tie.After-slice_known-1 → tie.Start
 start c =
     let planes = c.before.before.before in
     let lists = planes.before.before.before in
@@ -42,43 +42,43 @@ start c =
     maps.before.before
 
 -- its steps, each from the next: the sides, the marks, the tap orders, the copy of the input
-abbrev gridded : tie.After-plan-sides → tie.After-grid
+abbrev gridded : tie.After-plan_sides → tie.After-grid-grid
 gridded c = c.before.before
 
-abbrev planned : tie.After-mark-listed → tie.After-plan-sides
+abbrev planned : tie.After-mark_listed → tie.After-plan_sides
 planned c = c.before.before.before
 
-abbrev marked : tie.After-tap-orders → tie.After-mark-listed
+abbrev marked : tie.After-tap_orders → tie.After-mark_listed
 marked c = c.before.before.before
 
-abbrev ordered : tie.After-copy-input → tie.After-tap-orders
+abbrev ordered : tie.After-copy_input → tie.After-tap_orders
 ordered c = c.before.before.before
 
-abbrev copied : tie.After-filter-marked-arg → tie.After-copy-input
+abbrev copied : tie.After-filter_marked-arg-1 → tie.After-copy_input
 copied c = let tables = c.before.before.before in tables.before.before.before
 
-grid-requires : tie.Need-grid-requires
+grid-requires : tie.Need-grid-grid-requires
 grid-requires c κs = let s = start c in ((ok s).sizes, (ok s).ctb_size)
 
-plan-sides-requires : tie.Need-plan-sides-requires
+plan-sides-requires : tie.Need-plan_sides-requires
 plan-sides-requires c κs =
     let s = start c.before.before in
-    let grid = c.before.grid.ensures in
+    let grid = c.before.grid-grid.ensures in
     (grid, rw (length-replicate 16384 zero) (few-ctbs grid), tables_of_lem (layout s) _ grid (ok s))
 
-mark-listed-requires : tie.Need-mark-listed-requires
+mark-listed-requires : tie.Need-mark_listed-requires
 mark-listed-requires c κs =
     let s = start (gridded c.before.before).before in
     let f = s.args.filter in (
-      component-accepted f (input s) s.pre,
+      component-accepted f (input s) s.requires,
       λ j h.
-          let below = listed_below f (input s) s.pre j h in (
+          let below = listed_below f (input s) s.requires j h in (
             omega (arith, below, few_in_layout (layout s) (ok s).sizes (ok s).ctb_size, length-replicate 16384 zero),
-            (accepted_tables (operation_of f) (input s) s.pre (filters-given f) (get_or s.args.ctb-list.now j 0) below).ctb_numbers,
+            (accepted_tables (operation_of f) (input s) s.requires (filters-given f) (get_or s.args.ctb_list.now j 0) below).ctb_numbers,
           ),
     )
 
-filter-marked-requires : tie.Need-filter-marked-requires
+filter-marked-requires : tie.Need-filter_marked-requires
 filter-marked-requires c κs =
     let copy = copied c in
     let marks = marked (ordered copy) in
@@ -86,11 +86,11 @@ filter-marked-requires c κs =
     let known = gridded sides in
     let s = start known.before in
     let f = s.args.filter in (
-      tables_accepted f (input s) s.pre known.grid.ensures (ordered copy).tap-orders.ensures,
-      sides.plan-sides.ensures.0 ∙ length-replicate 16384 zero,
-      marks.mark-listed.ensures.0 ∙ length-replicate 16384 zero,
-      marks_on f (input s) (marks.mark-listed.ensures.1 (input s) refl),
-      ap length copy.copy-input.ensures ∙ plane_length_lem f (input s) s.pre ∙ output_size f (input s) s.pre,
+      tables_accepted f (input s) s.requires known.grid-grid.ensures (ordered copy).tap_orders.ensures,
+      sides.plan_sides.ensures.0 ∙ length-replicate 16384 zero,
+      marks.mark_listed.ensures.0 ∙ length-replicate 16384 zero,
+      marks_on f (input s) (marks.mark_listed.ensures.1 (input s) refl),
+      ap length copy.copy_input.ensures ∙ plane_length_lem f (input s) s.requires ∙ output_size f (input s) s.requires,
     )
 
 returns : tie.Need-returns
@@ -100,14 +100,14 @@ returns c =
     let marks = marked (ordered copy) in
     let sides = planned marks in
     let s = start (gridded sides).before in
-    marked_result s.args.filter (input s) s.pre (marks.mark-listed.ensures.1 (input s) refl)
-    copy.copy-input.ensures
-    (called.filter-marked.ensures (input s) (record { accepted = s.pre; same = refl }) (sides.plan-sides.ensures.1 _ _))
+    marked_result s.args.filter (input s) s.requires (marks.mark_listed.ensures.1 (input s) refl)
+    copy.copy_input.ensures
+    (called.filter_marked.ensures (input s) (record { accepted = s.requires; same = refl }) (sides.plan_sides.ensures.1 _ _))
 
 pub filter_plane_spec : {M : Type 1} → statement M
 filter_plane_spec =
     tie.close
     (tie.spec grid-requires (λ c. search rules) plan-sides-requires (λ c. search rules) mark-listed-requires (λ c. search rules)
     (λ c κs. refl)
-    (λ c κs. let s = start (gridded (planned (marked c.before.before))).before in plane_length_lem s.args.filter (input s) s.pre)
+    (λ c κs. let s = start (gridded (planned (marked c.before.before))).before in plane_length_lem s.args.filter (input s) s.requires)
     (λ c. search rules) (λ c. search rules) (λ c. search rules) filter-marked-requires (λ c. search rules) returns)

@@ -12,7 +12,7 @@ block_passes_spec =
     tie.close
     (tie.spec
     (λ c. search rules) (λ c. search rules) (λ c. search rules)
-    (λ c. simp (ne_eqb _ _ c.if1.true))
+    (λ c. simp (ne_eqb _ _ c.if-region-k-ne1.true))
     (λ c κs. search rules) (λ c. search rules)
     (λ c κs. search block_in)
-    (λ c. simp (eq-eqb _ _ c.before.before.if1.false, ← c.before.block-sides.ensures) c.neighbours-inside.ensures))
+    (λ c. simp (eq-eqb _ _ c.before.before.if-region-k-ne1.false, ← c.before.block_sides-own.ensures) c.neighbours_inside.ensures))

@@ -8,7 +8,7 @@ pub inside_after_spec : {M : Type 1} → statement M
 inside_after_spec =
     tie.close
     (tie.spec
-    (λ c. omega (arith, c.before.requires c.if1.false))
-    (λ c. c.before.before.requires c.before.if1.false)
+    (λ c. omega (arith, c.before.requires c.if-disabled.false))
+    (λ c. c.before.before.requires c.before.if-disabled.false)
     (λ c. search rules)
-    (λ c. simp c.before.if1.false))
+    (λ c. simp c.before.if-disabled.false))

@@ -7,6 +7,6 @@ pub inside_before_spec : {M : Type 1} → statement M
 inside_before_spec =
     tie.close
     (tie.spec
-    (λ c. c.before.requires.1 c.if1.false)
+    (λ c. c.before.requires.1 c.if-disabled.false)
     (λ c. search rules) (λ c. search rules)
-    (λ c. simp c.before.if1.false))
+    (λ c. simp c.before.if-disabled.false))

@@ -15,10 +15,10 @@ returns c =
     let above = left.before.before in
     let stacked = above.before.before.before in
     let beside = stacked.before.before in
-    λ t. (beside.before.inside-before.ensures t && beside.inside-after.ensures t)
-    && ((stacked.before.inside-before2.ensures t && stacked.inside-after2.ensures t)
-    && ((above.inside-before3.ensures t && left.inside-after3.ensures t)
-    && (right.inside-before4.ensures t && c.inside-after4.ensures t)))
+    λ t. (beside.before.inside_before.ensures t && beside.inside_after.ensures t)
+    && ((stacked.before.inside_before-2.ensures t && stacked.inside_after-2.ensures t)
+    && ((above.inside_before-3.ensures t && left.inside_after-3.ensures t)
+    && (right.inside_before-4.ensures t && c.inside_after-4.ensures t)))
 
 pub neighbours_inside_spec : {M : Type 1} → statement M
 neighbours_inside_spec =

@@ -6,11 +6,11 @@ use Rattle.alf_isolation.specs.Steps.{block_test}
 use Rattle.alf_isolation.proofs.neighbours.run_passes.Statement.{statement}
 use Rattle.alf_isolation.proofs.neighbours.run_passes.Tie as tie
 
-abbrev invariant-loop : tie.invariant-loop
+abbrev invariant-loop : tie.invariant-loop-i
 invariant-loop width ctb virtual-columns region from sides first count i₀ i =
     Passed count (λ j. block_test width ctb virtual-columns region from sides (first + j)) i
 
-abbrev decreases-loop : tie.decreases-loop
+abbrev decreases-loop : tie.decreases-loop-i
 decreases-loop width ctb virtual-columns region from sides first count i₀ i = count - i
 
 pub run_passes_spec : {M : Type 1} → statement M

@@ -15,78 +15,78 @@ use Rattle.alf_isolation.proofs.CtbTests.{isolated_test, in_region, address_pass
 use Rattle.alf_isolation.proofs.regions.region_isolated.Statement.{statement}
 use Rattle.alf_isolation.proofs.regions.region_isolated.Tie as tie
 
-abbrev invariant-loop : tie.invariant-loop
+abbrev invariant-loop : tie.invariant-loop-k
 invariant-loop picture virtual-columns virtual-rows tile-columns tile-rows slice-map subpic-map subpic-across region grid total sides k₀ k =
     Passed (grid.columns * grid.rows)
     (address_passes (layout_of picture virtual-columns virtual-rows tile-columns tile-rows slice-map subpic-map subpic-across) region) k
     × (grid.columns * grid.rows ≤ 16384)
 
-abbrev decreases-loop : tie.decreases-loop
+abbrev decreases-loop : tie.decreases-loop-k
 decreases-loop picture virtual-columns virtual-rows tile-columns tile-rows slice-map subpic-map subpic-across region grid total sides k₀ k =
     total - k
 
 -- the layout that it is given
 abbrev layout : tie.Start invariant-loop decreases-loop → Layout
 layout s =
-    layout_of s.args.picture s.args.virtual-columns.now s.args.virtual-rows.now s.args.tile-columns.now
-    s.args.tile-rows.now s.args.slice-map.now s.args.subpic-map.now s.args.subpic-across.now
+    layout_of s.args.picture s.args.virtual_columns.now s.args.virtual_rows.now s.args.tile_columns.now
+    s.args.tile_rows.now s.args.slice_map.now s.args.subpic_map.now s.args.subpic_across.now
 
 ok : (s : tie.Start invariant-loop decreases-loop) → AcceptedLayout (layout s)
 ok s = accepted-layout (layout s) _ s.requires
 
 -- a turn of the loop, seen from where its CTB is tested
-abbrev turned : tie.After-ctb-passes invariant-loop decreases-loop → tie.In-loop invariant-loop decreases-loop
+abbrev turned : tie.After-ctb_passes invariant-loop decreases-loop → tie.In-loop-k invariant-loop decreases-loop
 turned c = search rules
 
 -- where the sides are planned, the grid is known and the function begins, each seen from what comes after it
-abbrev planned : tie.In-loop invariant-loop decreases-loop → tie.After-plan-sides invariant-loop decreases-loop
+abbrev planned : tie.In-loop-k invariant-loop decreases-loop → tie.After-plan_sides invariant-loop decreases-loop
 planned turn = turn.before.before.before
 
-abbrev gridded : tie.After-plan-sides invariant-loop decreases-loop → tie.After-grid invariant-loop decreases-loop
+abbrev gridded : tie.After-plan_sides invariant-loop decreases-loop → tie.After-grid-grid invariant-loop decreases-loop
 gridded c = c.before.before.before
 
-abbrev start : tie.After-grid invariant-loop decreases-loop → tie.Start invariant-loop decreases-loop
+abbrev start : tie.After-grid-grid invariant-loop decreases-loop → tie.Start invariant-loop decreases-loop
 start c = search rules
 
 -- a turn's answer is that of its CTB
-answer : (c : tie.After-ctb-passes invariant-loop decreases-loop) → let turn = turned c in let s = start (gridded (planned turn)) in
-    c.ctb_passes_lem.result ≡ address_passes (layout s) s.args.region.now turn.before.loop.k
+answer : (c : tie.After-ctb_passes invariant-loop decreases-loop) → let turn = turned c in let s = start (gridded (planned turn)) in
+    c.ctb_passes.result ≡ address_passes (layout s) s.args.region.now turn.before.loop-k.k
 answer c =
     let turn = turned c in
     let p = planned turn in
     let s = start (gridded p) in
-    let grid = (gridded p).grid.ensures in
-    let sided : tie.After-sides-at invariant-loop decreases-loop = search rules in
-    let table = p.plan-sides.last.1.1.1.1.1.1.1.0 in
-    let k = turn.before.loop.k in
-    let below = turn.loop-test.taken in
-    address_passes_lem (layout s) _ s.pre _ grid k below
-    (planned_sides (layout s) grid table (p.plan-sides.ensures.1 _ _) k below sided.sides-at.ensures) c.ctb_passes_lem.ensures
+    let grid = (gridded p).grid-grid.ensures in
+    let sided : tie.After-sides_at invariant-loop decreases-loop = search rules in
+    let table = p.plan_sides.new.table in
+    let k = turn.before.loop-k.k in
+    let below = turn.loop-k-test.true in
+    address_passes_lem (layout s) _ s.requires _ grid k below
+    (planned_sides (layout s) grid table (p.plan_sides.ensures.1 _ _) k below sided.sides_at.ensures) c.ctb_passes.ensures
 
 pub region_isolated_spec : {M : Type 1} → statement M
 region_isolated_spec =
     tie.close
     (tie.spec invariant-loop decreases-loop
     (λ c κs. let s : tie.Start invariant-loop decreases-loop = search rules in ((ok s).sizes, (ok s).ctb_size))
-    (λ c. omega (arith, few-ctbs c.before.grid.ensures))
+    (λ c. omega (arith, few-ctbs c.before.grid-grid.ensures))
     (λ c. search rules)
     (λ c κs.
     let g = c.before.before in
-    (g.grid.ensures, rw (length-replicate 16384 zero) (few-ctbs g.grid.ensures), tables_of_lem _ _ g.grid.ensures (ok (start g))))
-    (λ c. (search scans, few-ctbs (gridded c.before).grid.ensures))
+    (g.grid-grid.ensures, rw (length-replicate 16384 zero) (few-ctbs g.grid-grid.ensures), tables_of_lem _ _ g.grid-grid.ensures (ok (start g))))
+    (λ c. (search scans, few-ctbs (gridded c.before).grid-grid.ensures))
     (λ c. search rules) (λ c. search rules) (λ c. search rules)
     (λ c κs.
-    let turn : tie.In-loop invariant-loop decreases-loop = search rules in
-    omega (arith, (planned turn).plan-sides.ensures.0, length-replicate 16384 zero, turn.loop-test.taken, turn.before.loop.inv.1))
+    let turn : tie.In-loop-k invariant-loop decreases-loop = search rules in
+    omega (arith, (planned turn).plan_sides.ensures.0, length-replicate 16384 zero, turn.loop-k-test.true, turn.before.loop-k.invariant.1))
     (λ c κs.
-    let turn : tie.In-loop invariant-loop decreases-loop = search rules in
+    let turn : tie.In-loop-k invariant-loop decreases-loop = search rules in
     let g = gridded (planned turn) in
-    in_region (layout (start g)) _ (start g).pre _ g.grid.ensures _ turn.loop-test.taken)
+    in_region (layout (start g)) _ (start g).requires _ g.grid-grid.ensures _ turn.loop-k-test.true)
     (λ c.
     let turn = turned c.before in
     let g = gridded (planned turn) in
-    isolated_test (layout (start g)) _ (start g).pre _ g.grid.ensures
-    (scan_stop turn.before.loop.inv.0 turn.loop-test.taken (answer c.before) c.if1.true))
+    isolated_test (layout (start g)) _ (start g).requires _ g.grid-grid.ensures
+    (scan_stop turn.before.loop-k.invariant.0 turn.loop-k-test.true (answer c.before) c.if-not-ctb_passes.true-raw))
     (λ c. search rules) (λ c. search rules)
-    (λ c. (scan_step (search rules) (search rules) (answer c.before) c.if1.false, search rules))
+    (λ c. (scan_step (search rules) (search rules) (answer c.before) c.if-not-ctb_passes.false-raw, search rules))
     (λ c. search (isolated_test, scan_done)))

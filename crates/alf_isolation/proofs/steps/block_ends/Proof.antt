@@ -9,6 +9,6 @@ block_ends_spec =
     (tie.spec
     (λ c. search rules) (λ c. search rules) (λ c κs. search rules) (λ c κs. search rules) (λ c. search rules) (λ c. search rules)
     (λ c.
-    let before : tie.After-step-is-open = search rules in
-    let after : tie.After-step-is-open2 = search rules in
-    rw (before.step-is-open.ensures, after.step-is-open2.ensures)))
+    let before : tie.After-step_is_open = search rules in
+    let after : tie.After-step_is_open-2 = search rules in
+    rw (before.step_is_open.ensures, after.step_is_open-2.ensures)))

@@ -8,4 +8,4 @@ pub block_sides_spec : {M : Type 1} → statement M
 unfolding block_sides
 block_sides_spec =
     tie.close
-    (tie.spec (λ c κs. search rules) (λ c. let ends : tie.After-block-ends = search rules in rw ends.block-ends.ensures))
+    (tie.spec (λ c κs. search rules) (λ c. let ends : tie.After-block_ends-ends = search rules in rw ends.block_ends-ends.ensures))

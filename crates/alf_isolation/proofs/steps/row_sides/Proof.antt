@@ -12,14 +12,14 @@ row_sides_spec =
     (λ c κs. search rules) (λ c κs. search rules) (λ c κs. search rules) (λ c κs. search rules) (λ c κs. search rules)
     (λ c.
     let top : tie.After-disables = search rules in
-    let bottom : tie.After-disables2 = search rules in
-    let ends : tie.After-block-ends = search rules in
-    let left : tie.After-disables3 = search rules in
-    let right : tie.After-disables4 = search rules in
+    let bottom : tie.After-disables-2 = search rules in
+    let ends : tie.After-block_ends-ends = search rules in
+    let left : tie.After-disables-3 = search rules in
+    let right : tie.After-disables-4 = search rules in
     rw (
-      right.disables4.ensures,
-      left.disables3.ensures,
-      ends.block-ends.ensures,
-      bottom.disables2.ensures,
+      right.disables-4.ensures,
+      left.disables-3.ensures,
+      ends.block_ends-ends.ensures,
+      bottom.disables-2.ensures,
       top.disables.ensures,
     )))

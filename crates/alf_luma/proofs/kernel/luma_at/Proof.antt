@@ -20,8 +20,8 @@ sum s =
     tap_sum 12 (current a.copy.now a.s a.x) (spread_coeff a.taps.now a.x) (spread_clip a.taps.now a.x)
     (plus_samples a.copy.now a.s a.x) (minus_samples a.copy.now a.s a.x)
 
-summed : (c : tie.After-luma-sum) → to_z w32 (of_z w32 c.luma-sum.result) ≡ sum c.before.before.before
-summed c = returned w32 c.luma-sum.type-inv c.luma-sum.ensures
+summed : (c : tie.After-luma_sum) → to_z w32 (of_z w32 c.luma_sum.result) ≡ sum c.before.before.before
+summed c = returned w32 c.luma_sum.type_inv c.luma_sum.ensures
 
 filtered-requires : tie.Need-filtered-requires
 filtered-requires c κs =

@@ -12,33 +12,33 @@ use Rattle.alf_luma.proofs.RowReads.{fewer}
 use Rattle.alf_luma.proofs.kernel.luma_row.Statement.{statement}
 use Rattle.alf_luma.proofs.kernel.luma_row.Tie as tie
 
-abbrev invariant-loop : tie.invariant-loop
+abbrev invariant-loop : tie.invariant-loop-x
 invariant-loop copy s taps shift depth output₀ from n x₀ output x = (x ≤ n)
     × Paint output₀ (between from x) (row_from depth shift copy taps s from) output
 
-abbrev decreases-loop : tie.decreases-loop
+abbrev decreases-loop : tie.decreases-loop-x
 decreases-loop copy s taps shift depth output₀ from n x₀ output x = n - x
 
-luma-at-requires : tie.Need-luma-at-requires invariant-loop decreases-loop
+luma-at-requires : tie.Need-luma_at-requires invariant-loop decreases-loop
 luma-at-requires c κs =
     let s : tie.Start invariant-loop decreases-loop = search rules in
-    (fewer s.pre.0 (omega (arith, c.loop-test.true)), s.pre.1, omega arith, s.pre.3, s.pre.4)
+    (fewer s.requires.0 (omega (arith, c.loop-x-test.true)), s.requires.1, omega arith, s.requires.3, s.requires.4)
 
-loop-again : tie.Need-loop-preserved invariant-loop decreases-loop
+loop-again : tie.Need-loop-x-preserved invariant-loop decreases-loop
 loop-again c =
-    let l = c.before.before.loop in
+    let l = c.before.before.loop-x in
     let begin : tie.Start invariant-loop decreases-loop = search rules in
     let s = begin.args in
     let column : l.x ≡ s.from + l.x - s.from = omega arith in (
       omega arith,
       paint_set _ _ l.invariant.1 (omega arith)
-          (c.luma-at.ensures ∙ ap (filtered_at s.depth s.shift s.copy.now s.taps.now s.s) column) (λ k h. run_more _ _ k),
+          (c.luma_at.ensures ∙ ap (filtered_at s.depth s.shift s.copy.now s.taps.now s.s) column) (λ k h. run_more _ _ k),
     )
 
 returns : tie.Need-returns invariant-loop decreases-loop
 returns c =
-    let inv = c.before.loop.invariant in
-    rw (le_antisymm inv.0 c.loop-test.false) at (paint_is inv.1)
+    let inv = c.before.loop-x.invariant in
+    rw (le_antisymm inv.0 c.loop-x-test.false) at (paint_is inv.1)
 
 pub luma_row_spec : {M : Type 1} → statement M
 luma_row_spec =

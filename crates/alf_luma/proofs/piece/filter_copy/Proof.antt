@@ -17,31 +17,31 @@ use Rattle.alf_luma.proofs.BlockRows.{spread_ready, taps_valid, four_ready, bloc
 use Rattle.alf_luma.proofs.piece.filter_copy.Statement.{statement}
 use Rattle.alf_luma.proofs.piece.filter_copy.Tie as tie
 
-abbrev invariant-loop : tie.invariant-loop
+abbrev invariant-loop : tie.invariant-loop-row
 invariant-loop picture grid columns rows filters orders map copy taps₀ output₀ n count row₀ taps output row =
     (row ≤ extent rows / 4) × TapNumbers taps × (length taps ≡ length taps₀)
     × Paint output₀ (in_rect picture.width columns.start columns.end rows.start (rows.start + 4 * row))
     (luma_copy_sample_at picture grid.ctb copy columns rows filters) output
 
-abbrev decreases-loop : tie.decreases-loop
+abbrev decreases-loop : tie.decreases-loop-row
 decreases-loop picture grid columns rows filters orders map copy taps₀ output₀ n count row₀ taps output row = count - row
 
 -- what the function is given, seen from a turn
-abbrev start : tie.In-loop invariant-loop decreases-loop → tie.Start invariant-loop decreases-loop
+abbrev start : tie.In-loop-row invariant-loop decreases-loop → tie.Start invariant-loop decreases-loop
 start turn = search rules
 
 -- the turn's row of blocks is one of the piece's
-below : (turn : tie.In-loop invariant-loop decreases-loop) → turn.before.loop.row < extent (start turn).args.rows / 4
+below : (turn : tie.In-loop-row invariant-loop decreases-loop) → turn.before.loop-row.row < extent (start turn).args.rows / 4
 below turn =
-    let high : tie.After-extent2 invariant-loop decreases-loop = search rules in
-    omega (arith, high.extent2.ensures, turn.loop-test.true)
+    let high : tie.After-extent-count invariant-loop decreases-loop = search rules in
+    omega (arith, high.extent-count.ensures, turn.loop-row-test.true)
 
 -- what it is filtered with
-work : (turn : tie.In-loop invariant-loop decreases-loop) → let a = (start turn).args in let l = turn.before.loop in
+work : (turn : tie.In-loop-row invariant-loop decreases-loop) → let a = (start turn).args in let l = turn.before.loop-row in
     BlockRowInput a.picture a.grid a.filters.now a.orders.now l.taps (length l.output)
 work turn =
     let given = (start turn).requires.0 in
-    let inv = turn.before.loop.invariant in
+    let inv = turn.before.loop-row.invariant in
     record {
       picture = given.picture;
       numbers = given.numbers;
@@ -51,70 +51,70 @@ work turn =
     }
 
 -- the piece has at most 32 rows of blocks
-small : (turn : tie.In-loop invariant-loop decreases-loop) → turn.before.loop.row < 32
+small : (turn : tie.In-loop-row invariant-loop decreases-loop) → turn.before.loop-row.row < 32
 small turn = omega (arith, below turn, (blocks (start turn).requires.1.down).few)
 
 spread-requires : tie.Need-spread-requires invariant-loop decreases-loop
 spread-requires c κs =
-    let turn : tie.In-loop invariant-loop decreases-loop = search rules in
-    let long : tie.After-extent invariant-loop decreases-loop = search rules in
-    let pre = (start turn).pre in
-    rw long.extent.ensures (spread_ready (start turn).args.map.now _ (work turn) pre.1 pre.2 pre.3 (below turn))
+    let turn : tie.In-loop-row invariant-loop decreases-loop = search rules in
+    let long : tie.After-extent-n invariant-loop decreases-loop = search rules in
+    let pre = (start turn).requires in
+    rw long.extent-n.ensures (spread_ready (start turn).args.map.now _ (work turn) pre.1 pre.2 pre.3 (below turn))
 
-filter-four-requires : tie.Need-filter-four-requires invariant-loop decreases-loop
+filter-four-requires : tie.Need-filter_four-requires invariant-loop decreases-loop
 filter-four-requires c κs =
-    let turn : tie.In-loop invariant-loop decreases-loop = search rules in
-    let long : tie.After-extent invariant-loop decreases-loop = search rules in
+    let turn : tie.In-loop-row invariant-loop decreases-loop = search rules in
+    let long : tie.After-extent-n invariant-loop decreases-loop = search rules in
     let done : tie.After-spread invariant-loop decreases-loop = search rules in
-    let pre = (start turn).pre in
-    rw long.extent.ensures (four_ready (start turn).args.map.now _ (work turn) pre.1 pre.2 pre.3 (below turn)
-    (rw long.extent.ensures at done.spread.ensures))
+    let pre = (start turn).requires in
+    rw long.extent-n.ensures (four_ready (start turn).args.map.now _ (work turn) pre.1 pre.2 pre.3 (below turn)
+    (rw long.extent-n.ensures at done.spread.ensures))
 
-loop-again : tie.Need-loop-preserved invariant-loop decreases-loop
+loop-again : tie.Need-loop-row-preserved invariant-loop decreases-loop
 loop-again c =
-    let turn : tie.In-loop invariant-loop decreases-loop = search rules in
-    let long : tie.After-extent invariant-loop decreases-loop = search rules in
+    let turn : tie.In-loop-row invariant-loop decreases-loop = search rules in
+    let long : tie.After-extent-n invariant-loop decreases-loop = search rules in
     let done : tie.After-spread invariant-loop decreases-loop = search rules in
-    let four : tie.After-filter-four invariant-loop decreases-loop = search rules in
-    let pre = (start turn).pre in
-    let l = turn.before.loop in
-    let filled = rw long.extent.ensures at done.spread.ensures in
+    let four : tie.After-filter_four invariant-loop decreases-loop = search rules in
+    let pre = (start turn).requires in
+    let l = turn.before.loop-row in
+    let filled = rw long.extent-n.ensures at done.spread.ensures in
     let rows = (start turn).args.rows in
     let next : rows.start + 4 * l.row + 4 ≡ rows.start + 4 * (l.row + 1) = omega arith in (
       omega (arith, below turn),
       taps_valid (start turn).args.map.now _ (work turn) pre.1 pre.2 pre.3 (below turn) filled,
-      omega (arith, l.inv.2),
-      rw next at (paint_stacked _ _ _ _ _ _ l.inv.3
+      omega (arith, l.invariant.2),
+      rw next at (paint_stacked _ _ _ _ _ _ l.invariant.3
           (blocks-painted (start turn).args.map.now _ (work turn) pre.1 pre.2 pre.3 (below turn) filled _
-          (rw long.extent.ensures at four.filter-four.ensures))
+          (rw long.extent-n.ensures at four.filter_four.ensures))
           refl (omega arith) (omega arith)),
     )
 
 returns : tie.Need-returns invariant-loop decreases-loop
 returns c =
     let s : tie.Start invariant-loop decreases-loop = search rules in
-    let high : tie.After-extent2 invariant-loop decreases-loop = search rules in
-    let l = c.before.loop in
-    let b = blocks s.pre.1.down in
+    let high : tie.After-extent-count invariant-loop decreases-loop = search rules in
+    let l = c.before.loop-row in
+    let b = blocks s.requires.1.down in
     let last : s.args.rows.start + 4 * l.row ≡ s.args.rows.end =
-    omega (arith, l.invariant.0, high.extent2.ensures, c.loop-test.false, b.whole, s.pre.1.down.numbers.filled) in
+    omega (arith, l.invariant.0, high.extent-count.ensures, c.loop-row-test.false, b.whole, s.requires.1.down.numbers.filled) in
     (rw last at (paint_is l.invariant.3), l.invariant.1)
 
 pub filter_copy_spec : {M : Type 1} → statement M
 filter_copy_spec =
     tie.close
     (tie.spec invariant-loop decreases-loop
-    (λ c κs. let s : tie.Start invariant-loop decreases-loop = search rules in omega (arith, s.pre.1.across.numbers.filled))
-    (λ c κs. let s : tie.Start invariant-loop decreases-loop = search rules in omega (arith, s.pre.1.down.numbers.filled))
+    (λ c κs. let s : tie.Start invariant-loop decreases-loop = search rules in omega (arith, s.requires.1.across.numbers.filled))
+    (λ c κs. let s : tie.Start invariant-loop decreases-loop = search rules in omega (arith, s.requires.1.down.numbers.filled))
     (λ c.
     let s : tie.Start invariant-loop decreases-loop = search rules in
-    (omega arith, s.pre.0.spread, refl, paint_none (λ k. rect_none _ _ _ _ _ k (inr (omega arith)))))
+    (omega arith, s.requires.0.spread, refl, paint_none (λ k. rect_none _ _ _ _ _ k (inr (omega arith)))))
     (λ c. search rules) (λ c. search rules)
-    (λ c. let turn : tie.In-loop invariant-loop decreases-loop = search rules in omega (arith, small turn))
-    (λ c. let turn : tie.In-loop invariant-loop decreases-loop = search rules in omega (arith, small turn))
-    (λ c. let turn : tie.In-loop invariant-loop decreases-loop = search rules in omega (arith, small turn))
+    (λ c. let turn : tie.In-loop-row invariant-loop decreases-loop = search rules in omega (arith, small turn))
+    (λ c. let turn : tie.In-loop-row invariant-loop decreases-loop = search rules in omega (arith, small turn))
+    (λ c. let turn : tie.In-loop-row invariant-loop decreases-loop = search rules in omega (arith, small turn))
     spread-requires
-    (λ c. let turn : tie.In-loop invariant-loop decreases-loop = search rules in omega (arith, small turn))
+    (λ c. let turn : tie.In-loop-row invariant-loop decreases-loop = search rules in omega (arith, small turn))
     filter-four-requires (λ c. search rules)
-    (λ c. let turn : tie.In-loop invariant-loop decreases-loop = search rules in omega (arith, turn.loop-test.taken))
+    (λ c. let turn : tie.In-loop-row invariant-loop decreases-loop = search rules in omega (arith, turn.loop-row-test.true))
     loop-again (λ c. search rules) (λ c. search rules) returns)

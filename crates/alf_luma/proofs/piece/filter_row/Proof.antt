@@ -13,38 +13,38 @@ use Rattle.alf_luma.proofs.piece.filter_row.Statement.{statement}
 use Rattle.alf_luma.proofs.piece.filter_row.Tie as tie
 
 -- what the function is given
-abbrev start : tie.After-luma-rows → tie.Start
+abbrev start : tie.After-luma_rows-r → tie.Start
 start c = search rules
 
 -- the offsets are those of Table 45 at row y
-rows_are : (c : tie.After-luma-rows) → let a = (start c).args in c.luma-rows.result ≡ luma_rows_at_row a.picture.height
+rows_are : (c : tie.After-luma_rows-r) → let a = (start c).args in c.luma_rows-r.result ≡ luma_rows_at_row a.picture.height
     a.grid.ctb a.y
 rows_are c =
     let a = (start c).args in
-    rw (c.before.before.before.line_rule_lem.ensures (axis_of a.picture.height a.grid.ctb [] 4 1) refl refl) at
-    c.luma-rows.ensures
+    rw (c.before.before.before.line_rule-line.ensures (axis_of a.picture.height a.grid.ctb [] 4 1) refl refl) at
+    c.luma_rows-r.ensures
 
-offsets : (c : tie.After-luma-rows) → Rising c.luma-rows.result
+offsets : (c : tie.After-luma_rows-r) → Rising c.luma_rows-r.result
 offsets c = rw (rows_are c) (rising _ _)
 
-luma-row-requires : tie.Need-luma-row-requires
+luma-row-requires : tie.Need-luma_row-requires
 luma-row-requires c κs =
     let f = c.before.before.before in
     let s = start f in
-    rw c.before.before.starts.ensures (
-      row_reads s.args.pitch s.args.t s.args.n (offsets f) s.pre.2 s.pre.5 s.pre.6,
-      s.pre.7,
-      s.pre.3,
+    rw c.before.before.starts-s.ensures (
+      row_reads s.args.pitch s.args.t s.args.n (offsets f) s.requires.2 s.requires.5 s.requires.6,
+      s.requires.7,
+      s.requires.3,
       (offsets f).shift,
-      (depth_bounds _ s.pre.0.depth).1,
-      s.pre.8,
+      (depth_bounds _ s.requires.0.depth).1,
+      s.requires.8,
     )
 
 returns : tie.Need-returns
 returns c =
-    let f : tie.After-luma-rows = search rules in
-    let rows : tie.After-starts = search rules in
-    rw (rows.starts.ensures, rows_are f) at c.before.before.luma-row.ensures
+    let f : tie.After-luma_rows-r = search rules in
+    let rows : tie.After-starts-s = search rules in
+    rw (rows.starts-s.ensures, rows_are f) at c.before.before.luma_row.ensures
 
 pub filter_row_spec : {M : Type 1} → statement M
 filter_row_spec =
@@ -52,8 +52,8 @@ filter_row_spec =
     (tie.spec (λ c κs. search rules) (λ c. search rules)
     (λ c.
     let s : tie.Start = search rules in
-    let positive : 0 < s.args.grid.ctb = omega (arith, s.pre.0.grid.ctb_low) in
+    let positive : 0 < s.args.grid.ctb = omega (arith, s.requires.0.grid.ctb_low) in
     omega (arith, mod-lt s.args.y positive))
     (λ c κs. search rules)
-    (λ c κs. let s = start c in omega (arith, offsets c, s.pre))
+    (λ c κs. let s = start c in omega (arith, offsets c, s.requires))
     (λ c. search rules) luma-row-requires (λ c. search rules) returns)

@@ -6,10 +6,10 @@ use borrow.Author.Rules.{rules}
 use Rattle.alf_luma.proofs.piece.starts.Statement.{statement}
 use Rattle.alf_luma.proofs.piece.starts.Tie as tie
 
-abbrev start : tie.After-struct-known3 → tie.Start
+abbrev start : tie.After-struct_known-3-1 → tie.Start
 start c = c.before.before.before
 
-room : (c : tie.After-struct-known3) (m : ℕ) → m ≤ 134 → m * (start c).args.pitch ≤ 17956
+room : (c : tie.After-struct_known-3-1) (m : ℕ) → m ≤ 134 → m * (start c).args.pitch ≤ 17956
 room c m h = mul-le-mul h (start c).requires.0
 
 pub starts_spec : {M : Type 1} → statement M

@@ -5,7 +5,7 @@ use Rattle.alf_luma.proofs.FilterNumbers.{numbers-small, orders-small}
 use Rattle.alf_luma.proofs.spread.put_class.Statement.{statement}
 use Rattle.alf_luma.proofs.spread.put_class.Tie as tie
 
-put-filter-requires : tie.Need-put-filter-requires
+put-filter-requires : tie.Need-put_filter-requires
 put-filter-requires c κs =
     let s = c.before.before in (
       omega (arith, s.requires.0.count),

@@ -20,16 +20,16 @@ use Rattle.alf_luma.specs.SpreadFilters.{number_from}
 use Rattle.alf_luma.proofs.spread.put_filter.Statement.{statement}
 use Rattle.alf_luma.proofs.spread.put_filter.Tie as tie
 
-abbrev invariant-loop : tie.invariant-loop
+abbrev invariant-loop : tie.invariant-loop-j
 invariant-loop filters from orders at taps₀ to j₀ taps j =
     (j ≤ 24) × Filled (pos 0) taps₀ (in_rect 128 to (to + 4) 0 j) (number_from filters from orders at) taps
 
-abbrev decreases-loop : tie.decreases-loop
+abbrev decreases-loop : tie.decreases-loop-j
 decreases-loop filters from orders at taps₀ to j₀ taps j = 24 - j
 
 -- the index that a turn finds
-index_small : (c : tie.In-loop invariant-loop decreases-loop) → let s = c.before.before.before in
-    get_or s.args.orders.now (s.args.at + c.before.loop.j) 0 < 24
+index_small : (c : tie.In-loop-j invariant-loop decreases-loop) → let s = c.before.before.before in
+    get_or s.args.orders.now (s.args.at + c.before.loop-j.j) 0 < 24
 index_small c = c.before.before.before.requires.4 _ (omega arith)
 
 number_fits : (s : tie.Start invariant-loop decreases-loop) (k : ℕ) → SFits w16 (get_or s.args.filters.now k (pos 0))
@@ -41,23 +41,23 @@ row_is to j k fits t =
     let h = run_facts (j * 128 + to) 4 k t in
     sym (row_of 128 j k (omega arith) (omega arith)).0
 
-loop-again : tie.Need-loop-preserved invariant-loop decreases-loop
+loop-again : tie.Need-loop-j-preserved invariant-loop decreases-loop
 loop-again c =
-    let turn : tie.In-loop invariant-loop decreases-loop = search rules in
-    let l = turn.before.loop in
+    let turn : tie.In-loop-j invariant-loop decreases-loop = search rules in
+    let l = turn.before.loop-j in
     let s = turn.before.before.before in (
       omega arith,
-      fill_call l.inv.1 c.before.fill.ensures
+      fill_call l.invariant.1 c.before.fill.ensures
           (λ k h t. to_z-of_z (number_fits s _)
           ∙ ap (λ (n : ℕ). get_or s.args.filters.now (s.args.from + get_or s.args.orders.now (s.args.at + n) 0) (pos 0))
-          (row_is s.args.to l.j k s.pre.2 t))
-          (λ k h. rect_more 128 s.args.to 4 0 l.j s.pre.2 (omega arith) k),
+          (row_is s.args.to l.j k s.requires.2 t))
+          (λ k h. rect_more 128 s.args.to 4 0 l.j s.requires.2 (omega arith) k),
     )
 
 returns : tie.Need-returns invariant-loop decreases-loop
 returns c =
-    let inv = c.before.loop.invariant in
-    rw (le_antisymm inv.0 c.loop-test.false) at inv.1
+    let inv = c.before.loop-j.invariant in
+    rw (le_antisymm inv.0 c.loop-j-test.false) at inv.1
 
 pub put_filter_spec : {M : Type 1} → statement M
 put_filter_spec =
@@ -70,5 +70,5 @@ put_filter_spec =
     (λ c. omega (arith, index_small c.before.before))
     (λ c. omega (arith, index_small c.before.before))
     (λ c. omega (arith, index_small c.before.before))
-    (λ c κs. let turn : tie.In-loop invariant-loop decreases-loop = search rules in omega (arith, turn.before.loop.inv.1.len))
+    (λ c κs. let turn : tie.In-loop-j invariant-loop decreases-loop = search rules in omega (arith, turn.before.loop-j.invariant.1.len))
     (λ c. omega arith) (λ c. omega arith) loop-again (λ c. search rules) returns)

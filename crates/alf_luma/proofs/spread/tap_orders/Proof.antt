@@ -12,22 +12,22 @@ use Rattle.alf_luma.specs.SpreadFilters.{tap_index, tap_index_at}
 use Rattle.alf_luma.proofs.spread.tap_orders.Statement.{statement}
 use Rattle.alf_luma.proofs.spread.tap_orders.Tie as tie
 
-abbrev invariant-loop : tie.invariant-loop
+abbrev invariant-loop : tie.invariant-loop-k
 invariant-loop orders₀ k₀ orders k = (k ≤ 96) × (length orders₀ ≡ 96) × Paint orders₀ (between 0 k) tap_index_at orders
 
-abbrev decreases-loop : tie.decreases-loop
+abbrev decreases-loop : tie.decreases-loop-k
 decreases-loop orders₀ k₀ orders k = 96 - k
 
-loop-again : tie.Need-loop-preserved invariant-loop decreases-loop
+loop-again : tie.Need-loop-k-preserved invariant-loop decreases-loop
 loop-again c =
-    let inv = c.before.before.loop.invariant in
-    (omega arith, inv.1, paint_set _ _ inv.2 (omega arith) c.tap-index.ensures.0 (λ k h. run_next _ k))
+    let inv = c.before.before.loop-k.invariant in
+    (omega arith, inv.1, paint_set _ _ inv.2 (omega arith) c.tap_index.ensures.0 (λ k h. run_next _ k))
 
 returns : tie.Need-returns invariant-loop decreases-loop
 returns c =
-    let l = c.before.loop in
+    let l = c.before.loop-k in
     let inv = l.invariant in
-    let done : l.k ≡ 96 = le_antisymm inv.0 c.loop-test.false in
+    let done : l.k ≡ 96 = le_antisymm inv.0 c.loop-k-test.false in
     record {
       count = omega (arith, inv.2.len);
       entries = λ t j ht hj.
@@ -41,5 +41,5 @@ tap_orders_spec =
     (tie.spec invariant-loop decreases-loop
     (λ c. (omega arith, c.before.requires, paint_none (run_none 0)))
     (λ c κs. omega arith)
-    (λ c. omega (arith, c.tap-index.ensures.1))
+    (λ c. omega (arith, c.tap_index.ensures.1))
     (λ c. omega arith) (λ c. omega arith) (λ c. omega arith) loop-again (λ c. search rules) returns)

@@ -8,6 +8,6 @@ pub clip_spec : {M : Type 1} → statement M
 clip_spec =
     tie.close
     (tie.spec
-    (λ c. let f = c.before.ranges in clip-low w32 f.low f.high f.v c.if1.true)
-    (λ c. let f = c.before.before.ranges in clip-high w32 f.low f.high f.v c.before.if1.false c.if2.true)
-    (λ c. let f = c.before.before.ranges in clip-between_ends w32 f.low f.high f.v c.before.if1.false c.if2.false))
+    (λ c. let f = c.before.ranges in clip-low w32 f.low f.high f.v c.if-v-low.true)
+    (λ c. let f = c.before.before.ranges in clip-high w32 f.low f.high f.v c.before.if-v-low.false c.if-high-v.true)
+    (λ c. let f = c.before.before.ranges in clip-between_ends w32 f.low f.high f.v c.before.if-v-low.false c.if-high-v.false))

@@ -7,10 +7,10 @@ use Rattle.alf_math.proofs.clipping.level16.Statement.{statement}
 use Rattle.alf_math.proofs.clipping.level16.Tie as tie
 
 level : (c : tie.After-clip16) → let a = c.before.before.args in Level w16 c.clip16.result a.depth a.v
-level c = level_clipped w16 _ (omega arith) c.before.before.ranges.v c.clip16.type-inv c.clip16.ensures
-    c.before.top-level.ensures
+level c = level_clipped w16 _ (omega arith) c.before.before.ranges.v c.clip16.type_inv c.clip16.ensures
+    c.before.top_level.ensures
 
 pub level16_spec : {M : Type 1} → statement M
 level16_spec =
     tie.close
-    (tie.spec (λ c κs. search rules) (λ c. search rules) (λ c κs. search rules) (λ c. (level c).ranges) (λ c. (level c).sample))
+    (tie.spec (λ c κs. search rules) (λ c. search rules) (λ c κs. search rules) (λ c. (level c).fits) (λ c. (level c).sample))

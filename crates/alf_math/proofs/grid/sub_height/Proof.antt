@@ -14,5 +14,5 @@ ratio halved = cond halved 2 1
 
 pub sub_height_spec : {M : Type 1} → statement M
 unfolding sub_height
-sub_height_spec = tie.close (tie.spec (λ c. (sym (ap ratio (eq-eqb _ _ c.if1.true)), omega arith))
-    (λ c. (sym (ap ratio (ne_eqb _ _ c.if1.false)), omega arith)))
+sub_height_spec = tie.close (tie.spec (λ c. (sym (ap ratio (eq-eqb _ _ c.if-format-eq1.true)), omega arith))
+    (λ c. (sym (ap ratio (ne_eqb _ _ c.if-format-eq1.false)), omega arith)))

@@ -7,4 +7,4 @@ use Rattle.alf_math.proofs.grid.sub_width.Tie as tie
 
 pub sub_width_spec : {M : Type 1} → statement M
 unfolding sub_width
-sub_width_spec = tie.close (tie.spec (λ c. (rw c.if1.true refl, omega arith)) (λ c. (rw c.if1.false refl, omega arith)))
+sub_width_spec = tie.close (tie.spec (λ c. (rw c.if-format.true refl, omega arith)) (λ c. (rw c.if-format.false refl, omega arith)))

@@ -12,7 +12,7 @@ use Rattle.alf_math.proofs.rounding.filtered.Statement.{statement}
 use Rattle.alf_math.proofs.rounding.filtered.Tie as tie
 
 change : (c : tie.After-rounded) → let a = c.before.args in to_z w32 (of_z w32 c.rounded.result) ≡ rounded a.shift a.sum
-change c = returned w32 c.rounded.type-inv (simp (words, c.before.ranges.sum) at c.rounded.ensures)
+change c = returned w32 c.rounded.type_inv (simp (words, c.before.ranges.sum) at c.rounded.ensures)
 
 moved-fits : (s : tie.Start) → let a = s.args in SFits w32 (pos a.curr +ℤ rounded a.shift a.sum)
 unfolding rounded
@@ -25,12 +25,12 @@ moved-fits s =
       abs_add a.sum (pos 64),
     ))
 
-add-clip-sample : tie.Need-overflow-add-clip-sample
+add-clip-sample : tie.Need-overflow_add-curr
 add-clip-sample c = simp (change c, words, c.before.ranges.curr) (moved-fits c.before)
 
 returns : tie.Need-returns
 unfolding filtered
-returns c = let s = c.before.before in simp (change c.before, words, s.ranges.curr, moved-fits s) at c.clip-sample.ensures
+returns c = let s = c.before.before in simp (change c.before, words, s.ranges.curr, moved-fits s) at c.clip_sample.ensures
 
 pub filtered_spec : {M : Type 1} → statement M
 filtered_spec = tie.close (tie.spec (λ c. search rules) (λ c κs. search rules) add-clip-sample (λ c κs. search rules) returns)

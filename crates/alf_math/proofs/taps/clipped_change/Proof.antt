@@ -24,16 +24,16 @@ sample-back s = back w16 _ (omega arith)
 curr-back : (s : tie.Start) → to_z w16 s.args.curr ≡ pos s.args.curr
 curr-back s = back w16 _ (omega arith)
 
-sub-min16 : tie.Need-overflow-sub-min16
+sub-min16 : tie.Need-overflow_sub-sample
 sub-min16 c = simp (sample-back c, curr-back c) (difference c)
 
 smaller : (c : tie.After-min16) → let a = c.before.args in
     to_z w16 (of_z w16 c.min16.result) ≡ minℤ (pos a.sample -ℤ pos a.curr) a.c
 smaller c =
     let s = c.before in
-    returned w16 c.min16.type-inv (simp (sample-back s, curr-back s, to_z-of_z, difference s, s.ranges.c) at c.min16.ensures)
+    returned w16 c.min16.type_inv (simp (sample-back s, curr-back s, to_z-of_z, difference s, s.ranges.c) at c.min16.ensures)
 
-sub-max16 : tie.Need-overflow-sub-max16
+sub-max16 : tie.Need-overflow_sub-c
 sub-max16 c = simp (to_z-of_z, c.before.ranges.c) (opposite c.before)
 
 returns : tie.Need-returns
@@ -41,7 +41,7 @@ unfolding clipped_change
 returns c =
     let s = c.before.before in
     let e = simp (smaller c.before, to_z-of_z, s.ranges.c, opposite s) at c.max16.ensures in
-    returned w16 c.max16.type-inv (simp +ℤ_idl at e ∙ clip-between s.requires.1 (pos s.args.sample -ℤ pos s.args.curr))
+    returned w16 c.max16.type_inv (simp +ℤ_idl at e ∙ clip-between s.requires.1 (pos s.args.sample -ℤ pos s.args.curr))
 
 pub clipped_change_spec : {M : Type 1} → statement M
 clipped_change_spec =

@@ -7,5 +7,5 @@ pub min16_spec : {M : Type 1} → statement M
 min16_spec =
     tie.close
     (tie.spec
-    (λ c. let f = c.before.ranges in (picked_less f.a f.b c.if1.true).0)
-    (λ c. let f = c.before.ranges in (picked_not f.a f.b c.if1.false).0))
+    (λ c. let f = c.before.ranges in (picked_less f.a f.b c.if-a-b.true).0)
+    (λ c. let f = c.before.ranges in (picked_not f.a f.b c.if-a-b.false).0))

@@ -9,6 +9,6 @@ unfolding window_rows
 window_rows_spec =
     tie.close
     (tie.spec (λ c. search rules) (λ c. search rules)
-    (λ c. rw c.if1.true)
-    (λ c. rw (c.before.if1.false, c.if2.true))
-    (λ c. rw (c.before.if1.false, c.if2.false)))
+    (λ c. rw c.if-line-y.true)
+    (λ c. rw (c.before.if-line-y.false, c.if-line-y-2.true))
+    (λ c. rw (c.before.if-line-y.false, c.if-line-y-2.false)))

@@ -13,4 +13,4 @@ clip_fits_spec =
     tie.close
     (tie.spec
     (λ c κs. search rules)
-    (λ c. let s : tie.Start = search rules in ap (λ (n : ℕ). leb n s.args.limit) c.clip-word.ensures))
+    (λ c. let s : tie.Start = search rules in ap (λ (n : ℕ). leb n s.args.limit) c.clip_word.ensures))

@@ -9,10 +9,10 @@ use Rattle.alf_op_bank_read.proofs.FieldTests.{clips_are}
 use Rattle.alf_op_bank_read.proofs.fields.clips_valid.Statement.{statement}
 use Rattle.alf_op_bank_read.proofs.fields.clips_valid.Tie as tie
 
-abbrev invariant-loop : tie.invariant-loop
+abbrev invariant-loop : tie.invariant-loop-j
 invariant-loop field limit n j₀ j = (n ≡ (shape_of (tag_of field)).clips) × Passed n (clip_fits limit field) j
 
-abbrev decreases-loop : tie.decreases-loop
+abbrev decreases-loop : tie.decreases-loop-j
 decreases-loop field limit n j₀ j = n - j
 
 pub clips_valid_spec : {M : Type 1} → statement M

@@ -9,10 +9,10 @@ use Rattle.alf_op_bank_read.proofs.FieldTests.{zeros_are}
 use Rattle.alf_op_bank_read.proofs.fields.zero_field.Statement.{statement}
 use Rattle.alf_op_bank_read.proofs.fields.zero_field.Tie as tie
 
-abbrev invariant-loop : tie.invariant-loop
+abbrev invariant-loop : tie.invariant-loop-j
 invariant-loop field n j₀ j = (n ≡ (shape_of (tag_of field)).coeffs + 2 * (shape_of (tag_of field)).clips) × Passed n (byte_zero field) j
 
-abbrev decreases-loop : tie.decreases-loop
+abbrev decreases-loop : tie.decreases-loop-j
 decreases-loop field n j₀ j = n - j
 
 pub zero_field_spec : {M : Type 1} → statement M

@@ -14,4 +14,4 @@ clip_number_spec =
     (tie.spec
     (λ c κs. search rules)
     (λ c κs. search clip-small)
-    (λ c. returned w16 c.as_number.type-inv (c.as_number.ensures ∙ ap pos c.before.clip-word.ensures)))
+    (λ c. returned w16 c.as_number.type_inv (c.as_number.ensures ∙ ap pos c.before.clip_word.ensures)))

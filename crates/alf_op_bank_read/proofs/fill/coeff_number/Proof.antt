@@ -16,4 +16,4 @@ coeff_number_spec =
     (λ c. search rules)
     (λ c. search rules)
     (λ c κs. search rules)
-    (λ c. returned w16 {z = c.signed-byte.result} c.signed-byte.type-inv (search coeff_from)))
+    (λ c. returned w16 {z = c.signed_byte.result} c.signed_byte.type_inv (search coeff_from)))

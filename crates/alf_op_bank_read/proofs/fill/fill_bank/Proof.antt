@@ -11,21 +11,21 @@ use Rattle.alf_op_bank_read.proofs.Fills.{good_storable, good_fits, fill_end, fi
 use Rattle.alf_op_bank_read.proofs.fill.fill_bank.Statement.{statement}
 use Rattle.alf_op_bank_read.proofs.fill.fill_bank.Tie as tie
 
-abbrev invariant-loop : tie.invariant-loop
+abbrev invariant-loop : tie.invariant-loop-next
 invariant-loop file limit bank₀ at₀ from₀ bank at from =
     (at ≤ length file) × (length bank ≡ 6016) × (filters_fault limit from (fields (drop at file) 0) ≡ 0)
     × (filled bank (fields (drop at file) 0) ≡ filled bank₀ (fields (drop 4 file) 0))
 
-abbrev decreases-loop : tie.decreases-loop
+abbrev decreases-loop : tie.decreases-loop-next
 decreases-loop file limit bank₀ at₀ from₀ bank at from = length file - at
 
 -- the field at the position has no fault, so it can be stored
-stores : tie.Need-store-at-requires invariant-loop decreases-loop
+stores : tie.Need-store_at-requires invariant-loop decreases-loop
 stores c κs =
     let start : tie.Start invariant-loop decreases-loop = search rules in
-    let seen : tie.After-step-in invariant-loop decreases-loop = search rules in
-    let g = loop_good _ _ _ _ seen.step_in.ensures c.before.before.next.given.1 in
-    (omega arith, good_storable _ g start.pre.1, omega (arith, good_fits _ g))
+    let seen : tie.After-step_in invariant-loop decreases-loop = search rules in
+    let g = loop_good _ _ _ _ seen.step_in.ensures c.before.in-Filter.is in
+    (omega arith, good_storable _ g start.requires.1, omega (arith, good_fits _ g))
 
 pub fill_bank_spec : {M : Type 1} → statement M
 fill_bank_spec =

@@ -13,18 +13,18 @@ use Rattle.alf_op_bank_read.proofs.Fills.{numbers_many}
 use Rattle.alf_op_bank_read.proofs.fill.fill_field.Statement.{statement}
 use Rattle.alf_op_bank_read.proofs.fill.fill_field.Tie as tie
 
-abbrev invariant-loop : tie.invariant-loop
+abbrev invariant-loop : tie.invariant-loop-j
 invariant-loop field bank₀ start count j₀ bank j = (count ≡ length (field_numbers field)) × Pasted start (field_numbers field) bank₀ j bank
 
-abbrev decreases-loop : tie.decreases-loop
+abbrev decreases-loop : tie.decreases-loop-j
 decreases-loop field bank₀ start count j₀ bank j = count - j
 
 -- number j is stored
-stored : tie.Need-loop-preserved invariant-loop decreases-loop
+stored : tie.Need-loop-j-preserved invariant-loop decreases-loop
 stored c =
-    let turn = c.before.before.loop.invariant in
+    let turn = c.before.before.loop-j.invariant in
     let number = c.number_at in
-    (turn.0, paste_more (pos 0) _ turn.1 (omega arith) (omega arith) (returned w16 number.type-inv number.ensures))
+    (turn.0, paste_more (pos 0) _ turn.1 (omega arith) (omega arith) (returned w16 number.type_inv number.ensures))
 
 pub fill_field_spec : {M : Type 1} → statement M
 fill_field_spec =
@@ -43,5 +43,5 @@ fill_field_spec =
     (λ c. search rules)
     (λ c. search rules)
     stored
-    (λ c. c.before.loop.invariant.1.len)
-    (λ c. paste_done c.before.loop.invariant.1 (omega arith)))
+    (λ c. c.before.loop-j.invariant.1.len)
+    (λ c. paste_done c.before.loop-j.invariant.1 (omega arith)))

@@ -13,6 +13,6 @@ number_at_spec =
     (λ c. search rules)
     (λ c κs. search rules)
     (λ c κs. search rules)
-    (λ c. returned w16 {z = c.coeff-number.result} c.coeff-number.type-inv (search number_coeff))
+    (λ c. returned w16 {z = c.coeff_number.result} c.coeff_number.type_inv (search number_coeff))
     (λ c κs. search rules)
-    (λ c. returned w16 {z = c.clip-number.result} c.clip-number.type-inv (search number-clip)))
+    (λ c. returned w16 {z = c.clip_number.result} c.clip_number.type_inv (search number-clip)))

@@ -10,22 +10,22 @@ use Rattle.alf_op_bank_read.proofs.Fills.{byte_low, byte_high}
 use Rattle.alf_op_bank_read.proofs.fill.signed_byte.Statement.{statement}
 use Rattle.alf_op_bank_read.proofs.fill.signed_byte.Tie as tie
 
-difference : tie.Need-overflow-sub-result
+difference : tie.Need-overflow_sub-result
 difference c =
     let b = c.before.args.b in
     rw (back w16 b (omega arith)) (fits_abs (omega (arith, abs_sub (pos b) (pos 256))))
 
-high : tie.Need-returns-2
+high : tie.Need-returns
 high c =
     let b = c.before.args.b in
-    to_z-of_z (difference c) ∙ rw (back w16 b (omega arith)) (byte_high b c.if1.false (omega arith))
+    to_z-of_z (difference c) ∙ rw (back w16 b (omega arith)) (byte_high b c.if-b-lt128.false (omega arith))
 
 pub signed_byte_spec : {M : Type 1} → statement M
 signed_byte_spec =
     tie.close
     (tie.spec
     (λ c. search rules)
-    (λ c. let b = c.before.args.b in back w16 b (omega arith) ∙ byte_low b c.if1.true)
+    (λ c. let b = c.before.args.b in back w16 b (omega arith) ∙ byte_low b c.if-b-lt128.true)
     (λ c. search rules)
     difference
     high)

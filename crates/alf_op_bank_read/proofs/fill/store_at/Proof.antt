@@ -5,12 +5,12 @@ use Rattle.alf_op_bank_read.proofs.fill.store_at.Statement.{statement}
 use Rattle.alf_op_bank_read.proofs.fill.store_at.Tie as tie
 
 -- what storing the numbers of the field asks
-asked : tie.Need-fill-field-requires
+asked : tie.Need-fill_field-requires
 asked c κs =
     let start : tie.Start = search rules in
-    let part : tie.After-bytes-from = search rules in (
+    let part : tie.After-bytes_from-field = search rules in (
       search part_storable,
-      part_fits part.bytes-from.ensures c.before.before.id-of.ensures c.before.start_of_lem.ensures start.pre.2,
+      part_fits part.bytes_from-field.ensures c.before.before.id_of.ensures c.before.start_of-start.ensures start.requires.2,
     )
 
 pub store_at_spec : {M : Type 1} → statement M

@@ -15,20 +15,20 @@ use Rattle.alf_op_bank_read.proofs.judge.filter_fault.Statement.{statement}
 use Rattle.alf_op_bank_read.proofs.judge.filter_fault.Tie as tie
 
 -- the field that it is given, seen from where the first two tests have passed
-abbrev field : tie.Else2 → List ℕ
+abbrev field : tie.Else-not-is_listed → List ℕ
 field c = let one = c.before.before in one.before.before.before.args.field.now
 
 -- there it is whole and listed
-proper : (c : tie.Else2) → (whole (field c) ≡ true) × (listed (field c) ≡ true)
+proper : (c : tie.Else-not-is_listed) → (whole (field c) ≡ true) × (listed (field c) ≡ true)
 proper c =
     let one = c.before.before in
-    (took one.before.is_whole.ensures one.if1.false, took c.before.is-listed.ensures c.if2.false)
+    (took one.before.is_whole.ensures one.if-not-is_whole.false-raw, took c.before.is_listed.ensures c.if-not-is_listed.false-raw)
 
 -- where its tag is not 1 either, it is a filter's, with all its bytes
-filter's : (c : tie.Else3) → Reaches (field c.before.before) × (is_depth (field c.before.before) ≡ false)
+filter's : (c : tie.Else-is_depth) → Reaches (field c.before.before) × (is_depth (field c.before.before) ≡ false)
 filter's c =
     let p = proper c.before.before in
-    let n = found c.before.is-depth.ensures c.if3.false in
+    let n = found c.before.is_depth.ensures c.if-is_depth.false in
     (filter_reaches _ p.0 p.1 n, n)
 
 pub filter_fault_spec : {M : Type 1} → statement M
@@ -40,7 +40,7 @@ filter_fault_spec =
     (λ c κs. search (has_head, answers))
     (λ c. search (unlisted, answers))
     (λ c κs. search (has_head, answers))
-    (λ c κs. let p = proper c.before.before in has_depth _ p.0 p.1 (found c.before.is-depth.ensures c.if3.true))
+    (λ c κs. let p = proper c.before.before in has_depth _ p.0 p.1 (found c.before.is_depth.ensures c.if-is_depth.true))
     (λ c. search (second-depth, answers))
     (λ c. search (wrong_depth, answers))
     (λ c κs. (filter's c).0)
@@ -48,6 +48,6 @@ filter_fault_spec =
     (λ c κs. let three = c.before.before in has_leads (field three.before.before) (filter's three).0)
     (λ c κs. search rules)
     (λ c. search (wrong_leads, answers))
-    (λ c κs. let three : tie.Else3 = search rules in filter's three)
+    (λ c κs. let three : tie.Else-is_depth = search rules in filter's three)
     (λ c. search (misplaced, answers))
     (λ c. search (good, answers)))

@@ -14,14 +14,14 @@ use Rattle.alf_op_bank_read.proofs.judge.first_fault.Statement.{statement}
 use Rattle.alf_op_bank_read.proofs.judge.first_fault.Tie as tie
 
 -- the field that it is given, seen from where the first two tests have passed
-abbrev field : tie.Else2 → List ℕ
+abbrev field : tie.Else-not-is_listed → List ℕ
 field c = let one = c.before.before in one.before.before.before.args.field.now
 
 -- there it is whole and listed
-proper : (c : tie.Else2) → (whole (field c) ≡ true) × (listed (field c) ≡ true)
+proper : (c : tie.Else-not-is_listed) → (whole (field c) ≡ true) × (listed (field c) ≡ true)
 proper c =
     let one = c.before.before in
-    (took one.before.is_whole.ensures one.if1.false, took c.before.is-listed.ensures c.if2.false)
+    (took one.before.is_whole.ensures one.if-not-is_whole.false-raw, took c.before.is_listed.ensures c.if-not-is_listed.false-raw)
 
 pub first_fault_spec : {M : Type 1} → statement M
 first_fault_spec =
@@ -32,12 +32,12 @@ first_fault_spec =
     (λ c κs. search (has_head, answers))
     (λ c. search (unlisted, answers))
     (λ c κs. search (has_head, answers))
-    (λ c κs. let p = proper c.before.before in has_depth _ p.0 p.1 (found c.before.is-depth.ensures c.if3.true))
+    (λ c κs. let p = proper c.before.before in has_depth _ p.0 p.1 (found c.before.is_depth.ensures c.if-is_depth.true))
     (λ c. search (first_good, answers))
     (λ c. search (wrong_depth, answers))
     (λ c κs.
     let p = proper c.before.before in
-    has_leads (field c.before.before) (filter_reaches _ p.0 p.1 (found c.before.is-depth.ensures c.if3.false)))
+    has_leads (field c.before.before) (filter_reaches _ p.0 p.1 (found c.before.is_depth.ensures c.if-is_depth.false)))
     (λ c κs. search rules)
     (λ c. search (no_depth, answers))
     (λ c. search (first_leads, answers)))

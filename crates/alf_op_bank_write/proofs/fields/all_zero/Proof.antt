@@ -10,10 +10,10 @@ use Rattle.alf_op_bank_write.proofs.FieldBytes.{zeros_all}
 use Rattle.alf_op_bank_write.proofs.fields.all_zero.Statement.{statement}
 use Rattle.alf_op_bank_write.proofs.fields.all_zero.Tie as tie
 
-abbrev invariant-loop : tie.invariant-loop
+abbrev invariant-loop : tie.invariant-loop-j
 invariant-loop bank id n j₀ j = (n ≡ count_of (shape_of id.tag)) × Passed n (zero_at bank id) j
 
-abbrev decreases-loop : tie.decreases-loop
+abbrev decreases-loop : tie.decreases-loop-j
 decreases-loop bank id n j₀ j = n - j
 
 pub all_zero_spec : {M : Type 1} → statement M
@@ -30,4 +30,4 @@ all_zero_spec =
     (λ c. search rules)
     (λ c. search rules)
     (λ c. (search rules, search scans))
-    (λ c. let inv = c.before.loop.invariant in zeros_all _ _ inv.0 (scan_done inv.1 (omega arith))))
+    (λ c. let inv = c.before.loop-j.invariant in zeros_all _ _ inv.0 (scan_done inv.1 (omega arith))))

@@ -16,21 +16,21 @@ use Rattle.alf_op_bank_write.proofs.fields.coeff_byte.Tie as tie
 number : (s : tie.Start) → to_z w16 (of_z w16 s.args.z) ≡ s.args.z
 number s = to_z-of_z s.ranges.z
 
-sum : tie.Need-overflow-add-result
+sum : tie.Need-overflow_add-result
 sum c =
     let s = c.before in
     rw (number s) (fits_abs (omega (arith, coeff_abs s.args.z s.requires, abs_add s.args.z (pos 256))))
 
 -- what a negative number becomes
-raised : (c : tie.Then1) → to_z w16 (of_z w16 (to_z w16 (of_z w16 c.before.args.z) +ℤ pos 256)) ≡ pos (byte_of c.before.args.z)
+raised : (c : tie.Then-z-lt0) → to_z w16 (of_z w16 (to_z w16 (of_z w16 c.before.args.z) +ℤ pos 256)) ≡ pos (byte_of c.before.args.z)
 raised c =
     let s = c.before in
-    to_z-of_z (sum c) ∙ rw (number s) (negative_byte s.args.z s.requires (rw (number s) at c.if1.true))
+    to_z-of_z (sum c) ∙ rw (number s) (negative_byte s.args.z s.requires (rw (number s) at c.if-z-lt0.true))
 
-kept : tie.Need-overflow-cast-result-2
+kept : tie.Need-overflow_cast-result-2
 kept c =
     let s = c.before in
-    rw (number s) (not_negative s.args.z (rw (number s) at c.if1.false), omega (arith, coeff_abs s.args.z s.requires))
+    rw (number s) (not_negative s.args.z (rw (number s) at c.if-z-lt0.false), omega (arith, coeff_abs s.args.z s.requires))
 
 pub coeff_byte_spec : {M : Type 1} → statement M
 coeff_byte_spec =
@@ -40,4 +40,4 @@ coeff_byte_spec =
     (λ c. rw (raised c) (tt, omega (arith, byte_small c.before.args.z c.before.requires)))
     (λ c. rw (raised c))
     kept
-    (λ c. rw (number c.before) (positive_byte c.before.args.z (rw (number c.before) at c.if1.false))))
+    (λ c. rw (number c.before) (positive_byte c.before.args.z (rw (number c.before) at c.if-z-lt0.false))))

@@ -12,5 +12,5 @@ coeff_of_spec =
     tie.close
     (tie.spec
     (λ c κs. search rules)
-    (λ c κs. rw (returned w16 c.number_of_lem.type-inv c.number_of_lem.ensures) (c.before.requires.0.coeffs _ c.before.requires.1))
-    (λ c. c.coeff_byte_lem.ensures ∙ ap byte_of (returned w16 c.before.number_of_lem.type-inv c.before.number_of_lem.ensures)))
+    (λ c κs. rw (returned w16 c.number_of.type_inv c.number_of.ensures) (c.before.requires.0.coeffs _ c.before.requires.1))
+    (λ c. c.coeff_byte.ensures ∙ ap byte_of (returned w16 c.before.number_of.type_inv c.before.number_of.ensures)))

@@ -20,4 +20,4 @@ head_byte_spec =
     (λ c. search head_aps)
     (λ c κs. search rules)
     (λ c. search head_second)
-    (λ c. let s : tie.Start = search rules in head_third s.args.id s.args.k (omega arith) s.pre))
+    (λ c. let s : tie.Start = search rules in head_third s.args.id s.args.k (omega arith) s.requires))

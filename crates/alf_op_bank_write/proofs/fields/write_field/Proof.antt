@@ -10,10 +10,10 @@ use Rattle.alf_op_bank_write.proofs.FieldBytes.{bytes_many}
 use Rattle.alf_op_bank_write.proofs.fields.write_field.Statement.{statement}
 use Rattle.alf_op_bank_write.proofs.fields.write_field.Tie as tie
 
-abbrev invariant-loop : tie.invariant-loop
+abbrev invariant-loop : tie.invariant-loop-k
 invariant-loop bank id file₀ at n k₀ file k = (n ≡ length (field_bytes bank id)) × Pasted at (field_bytes bank id) file₀ k file
 
-abbrev decreases-loop : tie.decreases-loop
+abbrev decreases-loop : tie.decreases-loop-k
 decreases-loop bank id file₀ at n k₀ file k = n - k
 
 pub write_field_spec : {M : Type 1} → statement M
@@ -33,6 +33,6 @@ write_field_spec =
     (λ c. omega arith)
     (λ c. search rules)
     (λ c. search rules)
-    (λ c. let inv = c.before.before.loop.invariant in (inv.0, paste_more 0 _ inv.1 (omega arith) (omega arith) c.field-byte.ensures))
-    (λ c. c.before.loop.invariant.1.len)
-    (λ c. paste_done c.before.loop.invariant.1 (omega arith)))
+    (λ c. let inv = c.before.before.loop-k.invariant in (inv.0, paste_more 0 _ inv.1 (omega arith) (omega arith) c.field_byte.ensures))
+    (λ c. c.before.loop-k.invariant.1.len)
+    (λ c. paste_done c.before.loop-k.invariant.1 (omega arith)))

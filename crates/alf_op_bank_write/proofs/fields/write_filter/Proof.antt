@@ -5,18 +5,18 @@ use Rattle.alf_op_bank_write.proofs.fields.write_filter.Statement.{statement}
 use Rattle.alf_op_bank_write.proofs.fields.write_filter.Tie as tie
 
 -- the filter can be written, and its field has room
-given : tie.Need-write-field-requires
+given : tie.Need-write_field-requires
 given c κs =
     let s : tie.Start = search rules in
-    let named : tie.After-filter-at = search rules in
-    (search writable_is, rw named.filter-at.ensures s.pre.2)
+    let named : tie.After-filter_at-id = search rules in
+    (search writable_is, rw named.filter_at-id.ensures s.requires.2)
 
 pub write_filter_spec : {M : Type 1} → statement M
 write_filter_spec =
     tie.close
     (tie.spec
     (λ c κs. search rules)
-    (λ c κs. rw c.filter-at.ensures c.before.before.requires.1.fits)
+    (λ c κs. rw c.filter_at-id.ensures c.before.before.requires.1.fits)
     (λ c. (search skipped_at, search skipped_file))
     given
     (λ c κs. search rules)

@@ -9,4 +9,4 @@ pub cause_at_spec : {M : Type 1} → statement M
 cause_at_spec =
     tie.close
     (tie.spec (λ c κs. search rules) (λ c κs. search rules)
-    (λ c. c.cause-of.ensures ∙ ap cause_of (c.before.find-clip.ensures 1)))
+    (λ c. c.cause_of.ensures ∙ ap cause_of (c.before.find_clip.ensures 1)))

@@ -8,7 +8,7 @@ use Rattle.alf_params.proofs.filters.chroma_run.Tie as tie
 
 returns : tie.Need-returns
 returns c =
-    let v = c.ctb-number.ensures in
+    let v = c.ctb_number-alternative.ensures in
     (ap chroma_run v, record { named = omega arith; inside = omega arith; room = omega arith })
 
 pub chroma_run_spec : {M : Type 1} → statement M

@@ -18,16 +18,16 @@ use Rattle.alf_params.specs.Numbers.{copied_from}
 use Rattle.alf_params.proofs.filters.copy_numbers.Statement.{statement}
 use Rattle.alf_params.proofs.filters.copy_numbers.Tie as tie
 
-abbrev invariant-loop : tie.invariant-loop
+abbrev invariant-loop : tie.invariant-loop-j
 invariant-loop table from n filters₀ to j₀ filters j = (j ≤ n) × Filled (pos 0) filters₀ (between to j) (copied_from table from to) filters
 
-abbrev decreases-loop : tie.decreases-loop
+abbrev decreases-loop : tie.decreases-loop-j
 decreases-loop table from n filters₀ to j₀ filters j = n - j
 
-loop-again : tie.Need-loop-preserved invariant-loop decreases-loop
+loop-again : tie.Need-loop-j-preserved invariant-loop decreases-loop
 unfolding copied_from
 loop-again c =
-    let l = c.before.before.loop in
+    let l = c.before.before.loop-j in
     let s = c.before.before.before in
     let a = s.args in
     let own : a.from + l.j ≡ a.from + ((a.to + l.j) - a.to) = omega arith in
@@ -38,8 +38,8 @@ loop-again c =
 
 returns : tie.Need-returns invariant-loop decreases-loop
 returns c =
-    let inv = c.before.loop.invariant in
-    rw (le_antisymm inv.0 c.loop-test.false) at inv.1
+    let inv = c.before.loop-j.invariant in
+    rw (le_antisymm inv.0 c.loop-j-test.false) at inv.1
 
 pub copy_numbers_spec : {M : Type 1} → statement M
 copy_numbers_spec =

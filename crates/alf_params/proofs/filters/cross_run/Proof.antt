@@ -8,7 +8,7 @@ use Rattle.alf_params.proofs.filters.cross_run.Tie as tie
 
 returns : tie.Need-returns
 returns c =
-    let v = c.ctb-number.ensures in
+    let v = c.ctb_number-index.ensures in
     (ap (cross_run _) v, record { named = omega arith; inside = omega arith; room = omega arith })
 
 pub cross_run_spec : {M : Type 1} → statement M

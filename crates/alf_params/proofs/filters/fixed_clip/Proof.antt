@@ -12,12 +12,12 @@ use Rattle.alf_params.proofs.filters.fixed_clip.Tie as tie
 
 returns : tie.Need-returns
 returns c =
-    let top = c.top-level in
+    let top = c.top_level in
     back w16 (top.result + 1) (omega (arith, top.ensures.1)) ∙ ap pos (omega (arith, top.ensures.0, pow_pos c.before.args.depth))
 
 pub fixed_clip_spec : {M : Type 1} → statement M
 fixed_clip_spec =
     tie.close
     (tie.spec (λ c κs. search rules) (λ c. search rules)
-    (λ c. record { sfits = omega (arith, c.top-level.ensures.1) })
+    (λ c. record { sfits = omega (arith, c.top_level.ensures.1) })
     returns)

@@ -6,23 +6,23 @@ use Rattle.alf_params.proofs.BankRanges.{bank-small}
 use Rattle.alf_params.proofs.filters.load_from_aps.Statement.{statement}
 use Rattle.alf_params.proofs.filters.load_from_aps.Tie as tie
 
-copy-numbers-requires : tie.Need-copy-numbers-requires
+copy-numbers-requires : tie.Need-copy_numbers-requires
 copy-numbers-requires c κs =
     let start : tie.Start = search rules in
-    let slice : tie.After-slice-number = search rules in
-    let T = start.pre.0 in
-    let few : slice.slice-number.result ≤ 7 = rw slice.slice-number.ensures (T.slice_range _) in
-    let run = start.pre.1 in (
+    let slice : tie.After-slice_number-aps = search rules in
+    let T = start.requires.0 in
+    let few : slice.slice_number-aps.result ≤ 7 = rw slice.slice_number-aps.ensures (T.slice_range _) in
+    let run = start.requires.1 in (
       omega (arith, few, T.bank_numbers.count, run.inside),
-      omega (arith, run.room, start.pre.2),
+      omega (arith, run.room, start.requires.2),
       bank-small T.bank_numbers,
     )
 
 returns : tie.Need-returns
 returns c =
-    let slice : tie.After-slice-number = search rules in
-    let copied : tie.After-copy-numbers = search rules in
-    record { filled = rw slice.slice-number.ensures at copied.copy-numbers.ensures }
+    let slice : tie.After-slice_number-aps = search rules in
+    let copied : tie.After-copy_numbers = search rules in
+    record { filled = rw slice.slice_number-aps.ensures at copied.copy_numbers.ensures }
 
 pub load_from_aps_spec : {M : Type 1} → statement M
 load_from_aps_spec =

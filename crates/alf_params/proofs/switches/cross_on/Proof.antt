@@ -8,4 +8,4 @@ use Rattle.alf_params.proofs.switches.cross_on.Tie as tie
 pub cross_on_spec : {M : Type 1} → statement M
 unfolding cross_on
 cross_on_spec =
-    tie.close (tie.spec (λ c. search rules) (λ c κs. search rules) (λ c i d p q. rw (c.ctb-number.ensures, ctb_param_lem i d p q)))
+    tie.close (tie.spec (λ c. search rules) (λ c κs. search rules) (λ c i d p q. rw (c.ctb_number.ensures, ctb_param_lem i d p q)))

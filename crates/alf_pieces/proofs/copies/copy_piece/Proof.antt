@@ -13,52 +13,52 @@ use Rattle.alf_pieces.proofs.CopyRows.{row_value, row_within}
 use Rattle.alf_pieces.proofs.copies.copy_piece.Statement.{statement}
 use Rattle.alf_pieces.proofs.copies.copy_piece.Tie as tie
 
-abbrev invariant-loop : tie.invariant-loop
+abbrev invariant-loop : tie.invariant-loop-j
 invariant-loop plane width columns rows sides copy₀ n count j₀ copy j =
     (j ≤ pitch rows) × Paint copy₀ (between 0 (j * pitch columns)) (copy_at columns rows sides plane width) copy
 
-abbrev decreases-loop : tie.decreases-loop
+abbrev decreases-loop : tie.decreases-loop-j
 decreases-loop plane width columns rows sides copy₀ n count j₀ copy j = count - j
 
 -- the row that a turn writes
-copy-room : (c : tie.After-row-range invariant-loop decreases-loop) → let looped = c.before.before in
+copy-room : (c : tie.After-row_range-range invariant-loop decreases-loop) → let looped = c.before.before in
     let n = looped.before.before in
-    looped.loop.j * (n.extent.result + 6) + (n.extent.result + 6) ≤ length looped.loop.copy
+    looped.loop-j.j * (n.extent-n.result + 6) + (n.extent-n.result + 6) ≤ length looped.loop-j.copy
 copy-room c =
     let s : tie.Start invariant-loop decreases-loop = search rules in
-    let looped : tie.At-loop invariant-loop decreases-loop = search rules in
-    let n : tie.After-extent invariant-loop decreases-loop = search rules in
-    row_room _ (pitch s.args.rows) _ _ (omega arith) (rw n.extent.ensures (omega (arith, s.pre.5, looped.loop.inv.1.len)))
+    let looped : tie.At-loop-j invariant-loop decreases-loop = search rules in
+    let n : tie.After-extent-n invariant-loop decreases-loop = search rules in
+    row_room _ (pitch s.args.rows) _ _ (omega arith) (rw n.extent-n.ensures (omega (arith, s.requires.5, looped.loop-j.invariant.1.len)))
 
-row-range-requires : tie.Need-row-range-requires invariant-loop decreases-loop
+row-range-requires : tie.Need-row_range-range-requires invariant-loop decreases-loop
 row-range-requires c κs =
     let s : tie.Start invariant-loop decreases-loop = search rules in
-    (s.pre.1, omega arith, omega arith, omega (arith, s.pre.4))
+    (s.requires.1, omega arith, omega arith, omega (arith, s.requires.4))
 
-copy-row-requires : tie.Need-copy-row-requires invariant-loop decreases-loop
+copy-row-requires : tie.Need-copy_row-requires invariant-loop decreases-loop
 copy-row-requires c κs =
     let s : tie.Start invariant-loop decreases-loop = search rules in
-    let n : tie.After-extent invariant-loop decreases-loop = search rules in
-    let range : tie.After-row-range invariant-loop decreases-loop = search rules in
-    let within = row_within _ s.args.rows s.args.sides _ _ s.pre.0 (omega arith) s.pre.4 in
-    (rw (range.row-range.ensures, n.extent.ensures) within, copy-room range)
+    let n : tie.After-extent-n invariant-loop decreases-loop = search rules in
+    let range : tie.After-row_range-range invariant-loop decreases-loop = search rules in
+    let within = row_within _ s.args.rows s.args.sides _ _ s.requires.0 (omega arith) s.requires.4 in
+    (rw (range.row_range-range.ensures, n.extent-n.ensures) within, copy-room range)
 
-loop-again : tie.Need-loop-preserved invariant-loop decreases-loop
+loop-again : tie.Need-loop-j-preserved invariant-loop decreases-loop
 loop-again c =
-    let looped : tie.At-loop invariant-loop decreases-loop = search rules in
-    let n : tie.After-extent invariant-loop decreases-loop = search rules in
-    let range : tie.After-row-range invariant-loop decreases-loop = search rules in
-    let copied : tie.After-copy-row invariant-loop decreases-loop = search rules in (
+    let looped : tie.At-loop-j invariant-loop decreases-loop = search rules in
+    let n : tie.After-extent-n invariant-loop decreases-loop = search rules in
+    let range : tie.After-row_range-range invariant-loop decreases-loop = search rules in
+    let copied : tie.After-copy_row invariant-loop decreases-loop = search rules in (
       omega arith,
-      paint_call _ _ looped.loop.inv.1 (rw (range.row-range.ensures, n.extent.ensures) at copied.copy-row.ensures)
+      paint_call _ _ looped.loop-j.invariant.1 (rw (range.row_range-range.ensures, n.extent-n.ensures) at copied.copy_row.ensures)
           (λ k _ t. row_value _ _ _ _ _ _ k t) (λ k _. run_join _ _ _ _ _ _ (omega arith) k),
     )
 
 returns : tie.Need-returns invariant-loop decreases-loop
 returns c =
     let s : tie.Start invariant-loop decreases-loop = search rules in
-    let all : c.before.loop.j ≡ pitch s.args.rows = omega arith in
-    rw all at (paint_is c.before.loop.invariant.1)
+    let all : c.before.loop-j.j ≡ pitch s.args.rows = omega arith in
+    rw all at (paint_is c.before.loop-j.invariant.1)
 
 pub copy_piece_spec : {M : Type 1} → statement M
 copy_piece_spec =

@@ -11,10 +11,10 @@ use Rattle.alf_pieces.proofs.CopyRows.{run_value}
 use Rattle.alf_pieces.proofs.copies.copy_run.Statement.{statement}
 use Rattle.alf_pieces.proofs.copies.copy_run.Tie as tie
 
-abbrev invariant-loop : tie.invariant-loop
+abbrev invariant-loop : tie.invariant-loop-i
 invariant-loop plane from n copy₀ at i₀ copy i = (i ≤ n) × Paint copy₀ (between at i) (run_at plane from at) copy
 
-abbrev decreases-loop : tie.decreases-loop
+abbrev decreases-loop : tie.decreases-loop-i
 decreases-loop plane from n copy₀ at i₀ copy i = n - i
 
 pub copy_run_spec : {M : Type 1} → statement M
@@ -24,6 +24,6 @@ copy_run_spec =
     (λ c. (omega arith, paint_none (λ k. run_none _ k)))
     (λ c. omega arith) (λ c. omega arith) (λ c. omega arith) (λ c. omega arith) (λ c. omega arith) (λ c. omega arith) (λ c. omega arith)
     (λ c. omega arith)
-    (λ c. (omega arith, paint_set _ _ c.before.before.loop.invariant.1 (omega arith) (run_value _ _ _ _) (λ k _. run_more _ _ k)))
+    (λ c. (omega arith, paint_set _ _ c.before.before.loop-i.invariant.1 (omega arith) (run_value _ _ _ _) (λ k _. run_more _ _ k)))
     (λ c. search rules)
-    (λ c. rw (le_antisymm c.before.loop.invariant.0 c.loop-test.false) at (paint_is c.before.loop.invariant.1)))
+    (λ c. rw (le_antisymm c.before.loop-i.invariant.0 c.loop-i-test.false) at (paint_is c.before.loop-i.invariant.1)))

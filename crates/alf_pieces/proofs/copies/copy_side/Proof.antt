@@ -11,10 +11,10 @@ use Rattle.alf_pieces.proofs.CopyRows.{side_value}
 use Rattle.alf_pieces.proofs.copies.copy_side.Statement.{statement}
 use Rattle.alf_pieces.proofs.copies.copy_side.Tie as tie
 
-abbrev invariant-loop : tie.invariant-loop
+abbrev invariant-loop : tie.invariant-loop-k
 invariant-loop plane r copy₀ at i k₀ copy k = (k ≤ 3) × Paint copy₀ (between (at + i) k) (row_at plane r at) copy
 
-abbrev decreases-loop : tie.decreases-loop
+abbrev decreases-loop : tie.decreases-loop-k
 decreases-loop plane r copy₀ at i k₀ copy k = 3 - k
 
 pub copy_side_spec : {M : Type 1} → statement M
@@ -25,13 +25,13 @@ copy_side_spec =
     (λ c. omega arith) (λ c κs. omega arith) (λ c κs. search rules) (λ c. omega arith) (λ c. omega arith) (λ c. omega arith)
     (λ c. omega arith) (λ c. omega arith) (λ c. omega arith) (λ c. omega arith) (λ c. omega arith) (λ c. omega arith)
     (λ c.
-    let looped : tie.At-loop invariant-loop decreases-loop = search rules in
+    let looped : tie.At-loop-k invariant-loop decreases-loop = search rules in
     let place : tie.After-position invariant-loop decreases-loop = search rules in
-    let column : tie.After-held invariant-loop decreases-loop = search rules in (
+    let column : tie.After-held-column invariant-loop decreases-loop = search rules in (
       omega arith,
-      paint_set _ _ looped.loop.inv.1 (omega arith)
-          (side_value _ _ _ _ _ _ _ place.position.ensures column.held.ensures (omega arith))
+      paint_set _ _ looped.loop-k.invariant.1 (omega arith)
+          (side_value _ _ _ _ _ _ _ place.position.ensures column.held-column.ensures (omega arith))
           (λ k _. run_more _ _ k),
     ))
     (λ c. search rules)
-    (λ c. rw (le_antisymm c.before.loop.invariant.0 c.loop-test.false) at (paint_is c.before.loop.invariant.1)))
+    (λ c. rw (le_antisymm c.before.loop-k.invariant.0 c.loop-k-test.false) at (paint_is c.before.loop-k.invariant.1)))

@@ -17,5 +17,5 @@ unfolding row_limit
 row_limit_spec =
     tie.close
     (tie.spec (λ c. search rules) (λ c. search rules) (λ c. search rules)
-    (λ c. let s : tie.Start = search rules in sym (ap (found s.args.columns) c.before.if1.true))
-    (λ c. let s : tie.Start = search rules in sym (ap (found s.args.columns) c.before.if1.false)))
+    (λ c. let s : tie.Start = search rules in sym (ap (found s.args.columns) c.before.if-sides-rows.true))
+    (λ c. let s : tie.Start = search rules in sym (ap (found s.args.columns) c.before.if-sides-rows.false)))

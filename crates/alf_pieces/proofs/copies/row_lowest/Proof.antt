@@ -9,5 +9,5 @@ unfolding row_lowest
 row_lowest_spec =
     tie.close
     (tie.spec (λ c. search rules) (λ c. search rules) (λ c. search rules)
-    (λ c. rw c.before.if1.true)
-    (λ c. rw c.before.if1.false))
+    (λ c. rw c.before.if-sides-v.true)
+    (λ c. rw c.before.if-sides-v.false))

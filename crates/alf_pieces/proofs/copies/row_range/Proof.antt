@@ -7,18 +7,18 @@ use Rattle.alf_pieces.specs.Copies.{copy_row, row_range}
 use Rattle.alf_pieces.proofs.copies.row_range.Statement.{statement}
 use Rattle.alf_pieces.proofs.copies.row_range.Tie as tie
 
-mul-t7 : tie.Need-overflow-mul-t7
+mul-t7 : tie.Need-overflow_mul-result
 mul-t7 c =
     let s : tie.Start = search rules in
-    let below : c.row_of.result ≤ s.args.rows.limit = omega arith in
+    let below : c.row_of-v.result ≤ s.args.rows.limit = omega arith in
     omega (arith, mul-le-mul_right s.args.width below)
 
 returns : tie.Need-returns
 unfolding copy_row row_range
 returns c =
-    let lowest : tie.After-row-lowest = search rules in
-    let read : tie.After-row-of = search rules in
-    rw (c.row-limit.ensures, lowest.row-lowest.ensures, read.row_of.ensures)
+    let lowest : tie.After-row_lowest = search rules in
+    let read : tie.After-row_of-v = search rules in
+    rw (c.row_limit.ensures, lowest.row_lowest.ensures, read.row_of-v.ensures)
 
 pub row_range_spec : {M : Type 1} → statement M
 row_range_spec =

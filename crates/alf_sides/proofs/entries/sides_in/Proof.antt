@@ -9,10 +9,10 @@ returns bottom =
     let right = top.before in
     let left = right.before in
     rw (
-      left.cause-numbered.ensures,
-      right.cause-numbered2.ensures,
-      top.cause-numbered3.ensures,
-      bottom.cause-numbered4.ensures,
+      left.cause_numbered.ensures,
+      right.cause_numbered-2.ensures,
+      top.cause_numbered-3.ensures,
+      bottom.cause_numbered-4.ensures,
     )
 
 pub sides_in_spec : {M : Type 1} → statement M

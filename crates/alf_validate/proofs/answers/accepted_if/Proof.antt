@@ -5,4 +5,4 @@ use Rattle.alf_validate.proofs.answers.accepted_if.Tie as tie
 
 pub accepted_if_spec : {M : Type 1} → statement M
 unfolding unless
-accepted_if_spec = tie.close (tie.spec (λ c. rw c.if1.true) (λ c. rw c.if1.false))
+accepted_if_spec = tie.close (tie.spec (λ c. rw c.if-valid.true) (λ c. rw c.if-valid.false))

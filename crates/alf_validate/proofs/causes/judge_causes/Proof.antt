@@ -15,4 +15,4 @@ judge_causes_spec =
     (λ c κs. search rules) (λ c κs. search rules) (λ c κs. search rules)
     (λ c.
     let last = c.before in
-    last_judged _ true 15 refl last.before.position-valid.ensures last.accepted-if.ensures c.layout-fault.ensures))
+    last_judged _ true 15 refl last.before.position_valid.ensures last.accepted_if.ensures c.layout_fault.ensures))

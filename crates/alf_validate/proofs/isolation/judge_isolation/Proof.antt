@@ -16,5 +16,5 @@ judge_isolation_spec =
     (λ c.
     let last = c.before in
     let tested = last.before in
-    last_judged _ true 14 (tested.before.region-length-valid.ensures _ refl) tested.region_valid_lem.ensures
-    last.accepted-if.ensures c.layout-fault.ensures))
+    last_judged _ true 14 (tested.before.region_length_valid.ensures _ refl) tested.region_valid.ensures
+    last.accepted_if.ensures c.layout_fault.ensures))

@@ -15,17 +15,17 @@ judge_classes_spec =
     (tie.spec
     (λ c κs. search rules) (λ c κs. search rules) (λ c κs. search rules) (λ c. search rules) (λ c. search rules)
     (λ c.
-    let j = c.before.before in
-    let same = classes_lengths _ _ _ j.before.before.plane-fits.ensures j.before.plane-fits2.ensures in
-    layout_leaves _ _ _ _ _ same _ _ j.layout-fault.ensures c.enum-told2.given.1)
+    let j = c.before in
+    let same = classes_lengths _ _ _ j.before.before.plane_fits.ensures j.before.plane_fits-2.ensures in
+    layout_leaves _ _ _ _ _ same _ _ j.layout_fault-layout.ensures c.in_default.is)
     (λ c κs.
-    let j = c.before.before in
-    depth_of_lem _ _ _ _ j.layout-fault.ensures c.enum_told.given.1)
+    let j = c.before in
+    depth_of_lem _ _ _ _ j.layout_fault-layout.ensures c.in-Accepted.is)
     (λ c κs. search rules)
     (λ c.
     let tested = c.before in
     let t = tested.before in
-    let j = t.before.before in
-    let same = classes_lengths _ _ _ j.before.before.plane-fits.ensures j.before.plane-fits2.ensures in
-    layout_goes _ _ _ _ _ same _ _ j.layout-fault.ensures t.enum_told.given.1
-    (classes-last _ _ _ tested.samples-valid.ensures c.accepted-if.ensures)))
+    let j = t.before in
+    let same = classes_lengths _ _ _ j.before.before.plane_fits.ensures j.before.plane_fits-2.ensures in
+    layout_goes _ _ _ _ _ same _ _ j.layout_fault-layout.ensures t.in-Accepted.is
+    (classes-last _ _ _ tested.samples_valid.ensures c.accepted_if.ensures)))

@@ -10,17 +10,17 @@ judge_filter_spec =
     (tie.spec
     (λ c κs. search rules) (λ c κs. search rules) (λ c κs. search rules) (λ c κs. search rules) (λ c. search rules) (λ c. search rules)
     (λ c.
-    let judged = c.before.before in
+    let judged = c.before in
     let fits = judged.before in
-    filter_rejects _ _ _ _ _ _ _ fits.filter-tables-fit.ensures _ judged.layout-fault.ensures _ _ _ _ _ _ _
-    fits.before.before.own-component.ensures fits.before.own_lengths_lem.ensures c.enum-told2.given.1)
+    filter_rejects _ _ _ _ _ _ _ fits.filter_tables_fit-tables_fit.ensures _ judged.layout_fault-layout.ensures _ _ _ _ _ _ _
+    fits.before.before.own_component-component_valid.ensures fits.before.own_lengths-lengths_valid.ensures c.in_default.is)
     (λ c κs.
-    let judged = c.before.before in
-    filter_fits _ _ _ _ _ _ _ judged.before.filter-tables-fit.ensures _ judged.layout-fault.ensures c.enum_told.given.1)
+    let judged = c.before in
+    filter_fits _ _ _ _ _ _ _ judged.before.filter_tables_fit-tables_fit.ensures _ judged.layout_fault-layout.ensures c.in-Accepted.is)
     (λ c.
     let told = c.before in
-    let judged = told.before.before in
+    let judged = told.before in
     let fits = judged.before in
-    filter_accepts _ _ _ _ _ _ _ fits.filter-tables-fit.ensures _ judged.layout-fault.ensures _ _ _ _ _ _ _
-    fits.before.before.own-component.ensures fits.before.own_lengths_lem.ensures told.enum_told.given.1
-    c.filter-tables-fault.ensures))
+    filter_accepts _ _ _ _ _ _ _ fits.filter_tables_fit-tables_fit.ensures _ judged.layout_fault-layout.ensures _ _ _ _ _ _ _
+    fits.before.before.own_component-component_valid.ensures fits.before.own_lengths-lengths_valid.ensures told.in-Accepted.is
+    c.filter_tables_fault.ensures))

@@ -18,16 +18,16 @@ own_lengths_spec =
     (λ c. search rules) (λ c κs. search rules) (λ c κs. search rules)
     (λ c. search rules) (λ c κs. search rules) (λ c κs. search rules) (λ c κs. search rules)
     (λ c.
-    let told : tie.After-enum-told = search rules in
-    rw (told.enum_told.given.1, c.before.plane-fits.ensures, c.plane-fits2.ensures))
+    let told : tie.In-Luma = search rules in
+    rw (told.in-Luma.is, c.before.plane_fits.ensures, c.plane_fits-in-Luma.ensures))
     (λ c.
-    let told : tie.After-enum-told2 = search rules in
-    rw (told.enum-told2.given.1, c.before.chroma-fits.ensures (map_layout _ []) refl, c.chroma-fits2.ensures (map_layout _ []) refl))
+    let told : tie.In-Chroma = search rules in
+    rw (told.in-Chroma.is, c.before.chroma_fits.ensures (map_layout _ []) refl, c.chroma_fits-in-Chroma.ensures (map_layout _ []) refl))
     (λ c.
-    let told : tie.After-enum-told3 = search rules in
+    let told : tie.In-CrossComponent = search rules in
     rw (
-      told.enum-told3.given.1,
-      c.before.before.plane-fits3.ensures,
-      c.before.chroma-fits3.ensures (map_layout _ []) refl,
-      c.chroma-fits4.ensures (map_layout _ []) refl,
+      told.in-CrossComponent.is,
+      c.before.before.plane_fits-in-CrossComponent.ensures,
+      c.before.chroma_fits-in-CrossComponent.ensures (map_layout _ []) refl,
+      c.chroma_fits-in-CrossComponent-2.ensures (map_layout _ []) refl,
     )))

@@ -8,5 +8,5 @@ corner_spec =
     tie.close
     (tie.spec
     (λ c. search rules) (λ c κs. search rules) (λ c. search rules) (λ c κs. search rules)
-    (λ c. rw c.before.enum_told.given.1 c.slice_corner_lem.ensures)
-    (λ c. rw c.before.enum-told2.given.1 c.subpic_corner_lem.ensures))
+    (λ c. rw c.before.in-Slices.is c.slice_corner.ensures)
+    (λ c. rw c.before.in-Subpictures.is c.subpic_corner.ensures))

@@ -6,10 +6,10 @@ use Rattle.alf_validate_layout.proofs.CornerLoops.{AtRow, AtCorner, corners}
 use Rattle.alf_validate_layout.proofs.corners.corners_valid.Statement.{statement}
 use Rattle.alf_validate_layout.proofs.corners.corners_valid.Tie as tie
 
-abbrev invariant-loop : tie.invariant-loop
+abbrev invariant-loop : tie.invariant-loop-x
 invariant-loop rule map columns rows good₀ y from x₀ good x = AtCorner (rule_of rule) map columns from good x
 
-abbrev decreases-loop : tie.decreases-loop
+abbrev decreases-loop : tie.decreases-loop-x
 decreases-loop rule map columns rows good₀ y from x₀ good x = columns - x
 
 abbrev invariant-corners : tie.invariant-corners

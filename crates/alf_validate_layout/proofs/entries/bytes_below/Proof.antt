@@ -9,10 +9,10 @@ use Rattle.alf_validate_layout.proofs.EveryEntry.{every-done}
 use Rattle.alf_validate_layout.proofs.entries.bytes_below.Statement.{statement}
 use Rattle.alf_validate_layout.proofs.entries.bytes_below.Tie as tie
 
-abbrev invariant-loop : tie.invariant-loop
+abbrev invariant-loop : tie.invariant-loop-i
 invariant-loop list limit good₀ i₀ good i = Sofar (length list) (λ k. ltb (get_or list k 0) limit) i good
 
-abbrev decreases-loop : tie.decreases-loop
+abbrev decreases-loop : tie.decreases-loop-i
 decreases-loop list limit good₀ i₀ good i = length list - i
 
 pub bytes_below_spec : {M : Type 1} → statement M
@@ -20,6 +20,6 @@ bytes_below_spec =
     tie.close
     (tie.spec invariant-loop decreases-loop
     (λ c. search scans) (λ c. search rules)
-    (λ c. omega (arith, c.shared-slice-known.given c.before.before.loop.i))
+    (λ c. omega (arith, c.shared_slice_known-1.given c.before.before.loop-i.i))
     (λ c. search rules) (λ c. search rules) (λ c. search scans)
-    (λ c. every-done 0 _ _ c.before.loop.invariant c.loop-test.false))
+    (λ c. every-done 0 _ _ c.before.loop-i.invariant c.loop-i-test.false))

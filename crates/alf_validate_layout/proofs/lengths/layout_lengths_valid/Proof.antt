@@ -10,4 +10,4 @@ layout_lengths_valid_spec =
     (tie.spec
     (λ c. search rules) (λ c. search rules)
     (λ c. record { fits = total_fits c.before.before.requires })
-    (λ c l e. let s : tie.Start = search rules in lengths_valid_lem l _ _ s.pre e _ _ _ _ _))
+    (λ c l e. let s : tie.Start = search rules in lengths_valid_lem l _ _ s.requires e _ _ _ _ _))

@@ -11,4 +11,4 @@ slices_valid_spec =
     (λ c κs. search rules) (λ c. search rules) (λ c. search rules) (λ c κs. search rules)
     (λ c l e u.
     let s = c.before.before.before in
-    slices_valid_lem l _ _ s.before.before.requires.0 e _ u s.bytes_below.ensures c.corners_valid_lem.ensures))
+    slices_valid_lem l _ _ s.before.before.requires.0 e _ u s.bytes_below.ensures c.corners_valid.ensures))

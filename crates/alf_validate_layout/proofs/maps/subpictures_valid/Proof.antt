@@ -11,6 +11,6 @@ subpictures_valid_spec =
     (λ c κs. search rules) (λ c κs. search rules) (λ c. search rules) (λ c. search rules) (λ c κs. search rules)
     (λ c l e u v.
     let s : tie.Start = search rules in
-    let switches : tie.After-bytes-below2 = search rules in
-    subpictures_valid_lem l _ _ s.pre.0 e _ _ u v switches.before.bytes_below.ensures switches.bytes-below2.ensures
-    c.corners_valid_lem.ensures))
+    let switches : tie.After-bytes_below-2 = search rules in
+    subpictures_valid_lem l _ _ s.requires.0 e _ _ u v switches.before.bytes_below.ensures switches.bytes_below-2.ensures
+    c.corners_valid.ensures))

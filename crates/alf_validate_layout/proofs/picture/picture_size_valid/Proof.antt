@@ -10,4 +10,4 @@ picture_size_valid_spec =
     tie.close
     (tie.spec
     (λ c κs. search rules) (λ c κs. search rules)
-    (λ c. rw (c.before.size-valid.ensures, c.size-valid2.ensures)))
+    (λ c. rw (c.before.size_valid.ensures, c.size_valid-2.ensures)))

@@ -7,10 +7,10 @@ use Rattle.alf_spec.proofs.Scans.{Passed, scans}
 use Rattle.alf_validate_layout.proofs.tiles.each_follows.Statement.{statement}
 use Rattle.alf_validate_layout.proofs.tiles.each_follows.Tie as tie
 
-abbrev invariant-loop : tie.invariant-loop
+abbrev invariant-loop : tie.invariant-loop-i
 invariant-loop list i₀ i = Passed (length list - 1) (follows_at list) i
 
-abbrev decreases-loop : tie.decreases-loop
+abbrev decreases-loop : tie.decreases-loop-i
 decreases-loop list i₀ i = length list - i
 
 pub each_follows_spec : {M : Type 1} → statement M

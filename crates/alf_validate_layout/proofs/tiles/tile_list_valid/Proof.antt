@@ -10,4 +10,4 @@ tile_list_valid_spec =
     tie.close
     (tie.spec
     (λ c κs. search rules) (λ c κs. search rules)
-    (λ c. rw (c.before.starts-at-zero.ensures, c.each-follows.ensures)))
+    (λ c. rw (c.before.starts_at_zero.ensures, c.each_follows.ensures)))

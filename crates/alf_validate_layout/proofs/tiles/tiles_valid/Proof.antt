@@ -10,4 +10,4 @@ tiles_valid_spec =
     tie.close
     (tie.spec
     (λ c κs. search rules) (λ c κs. search rules)
-    (λ c l u v. rw (u, v, c.before.tile-list-valid.ensures, c.tile-list-valid2.ensures)))
+    (λ c l u v. rw (u, v, c.before.tile_list_valid.ensures, c.tile_list_valid-2.ensures)))

@@ -7,10 +7,10 @@ use Rattle.alf_spec.proofs.Scans.{Passed, scans}
 use Rattle.alf_validate_layout.proofs.virtual_boundaries.each_apart.Statement.{statement}
 use Rattle.alf_validate_layout.proofs.virtual_boundaries.each_apart.Tie as tie
 
-abbrev invariant-loop : tie.invariant-loop
+abbrev invariant-loop : tie.invariant-loop-i
 invariant-loop ctb list i₀ i = Passed (length list - 1) (apart_at ctb list) i
 
-abbrev decreases-loop : tie.decreases-loop
+abbrev decreases-loop : tie.decreases-loop-i
 decreases-loop ctb list i₀ i = length list - i
 
 pub each_apart_spec : {M : Type 1} → statement M

@@ -9,10 +9,10 @@ use Rattle.alf_validate_layout.proofs.EveryEntry.{every-done}
 use Rattle.alf_validate_layout.proofs.virtual_boundaries.each_position_valid.Statement.{statement}
 use Rattle.alf_validate_layout.proofs.virtual_boundaries.each_position_valid.Tie as tie
 
-abbrev invariant-loop : tie.invariant-loop
+abbrev invariant-loop : tie.invariant-loop-i
 invariant-loop size list good₀ i₀ good i = Sofar (length list) (λ k. virtual_position_valid size (get_or list k 0)) i good
 
-abbrev decreases-loop : tie.decreases-loop
+abbrev decreases-loop : tie.decreases-loop-i
 decreases-loop size list good₀ i₀ good i = length list - i
 
 pub each_position_valid_spec : {M : Type 1} → statement M
@@ -21,4 +21,4 @@ each_position_valid_spec =
     (tie.spec invariant-loop decreases-loop
     (λ c. search (scans, rules)) (λ c. search (scans, rules)) (λ c. search (scans, rules)) (λ c κs. search rules)
     (λ c. search (scans, rules)) (λ c. search (scans, rules)) (λ c. search (scans, rules))
-    (λ c. every-done 0 _ _ c.before.loop.invariant c.loop-test.false))
+    (λ c. every-done 0 _ _ c.before.loop-i.invariant c.loop-i-test.false))

@@ -12,4 +12,4 @@ virtual_boundaries_valid_spec =
     (λ c κs. search rules) (λ c κs. search rules)
     (λ c l e u v.
     let s : tie.Start = search rules in
-    virtual_valid l _ _ s.pre e _ _ u v c.before.virtual-list-valid.ensures c.virtual-list-valid2.ensures))
+    virtual_valid l _ _ s.requires e _ _ u v c.before.virtual_list_valid.ensures c.virtual_list_valid-2.ensures))

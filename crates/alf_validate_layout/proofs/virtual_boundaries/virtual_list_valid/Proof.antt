@@ -10,6 +10,6 @@ unfolding virtual_list_valid
 virtual_list_valid_spec =
     tie.close
     (tie.spec
-    (λ c. rw (lt-leb _ 3 c.if1.true))
+    (λ c. rw (lt-leb _ 3 c.if-list-gt3.true))
     (λ c κs. search rules) (λ c κs. search rules)
-    (λ c. rw (le-leb _ 3 c.before.before.if1.false, c.before.each-position-valid.ensures, c.each-apart.ensures)))
+    (λ c. rw (le-leb _ 3 c.before.before.if-list-gt3.false, c.before.each_position_valid.ensures, c.each_apart.ensures)))

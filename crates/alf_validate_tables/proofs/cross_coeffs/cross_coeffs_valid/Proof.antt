@@ -7,5 +7,5 @@ pub cross_coeffs_valid_spec : {M : Type 1} → statement M
 cross_coeffs_valid_spec =
     tie.close
     (tie.spec (λ c κs. search rules) (λ c κs. search rules)
-    (λ c. rw (← c.before.before.judges-cross.ensures, c.before.if1.true) c.cross-filters-valid.ensures)
-    (λ c. rw (← c.before.judges-cross.ensures, c.if1.false)))
+    (λ c. rw (← c.before.before.judges_cross.ensures, c.before.if-judges_cross.true) c.cross_filters_valid.ensures)
+    (λ c. rw (← c.before.judges_cross.ensures, c.if-judges_cross.false)))

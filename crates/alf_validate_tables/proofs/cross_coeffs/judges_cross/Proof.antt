@@ -15,6 +15,6 @@ pub judges_cross_spec : {M : Type 1} → statement M
 judges_cross_spec =
     tie.close
     (tie.spec (λ c. search rules) (λ c. search rules) (λ c. search rules)
-    (λ c. sym (ap judges c.enum_told.given.1))
-    (λ c. sym (ap judges c.enum-told2.given.1))
-    (λ c. sym (ap judges c.enum-told3.given.1)))
+    (λ c. sym (ap judges c.in-Luma.is))
+    (λ c. sym (ap judges c.in-Chroma.is))
+    (λ c. sym (ap judges c.in-CrossComponent.is)))

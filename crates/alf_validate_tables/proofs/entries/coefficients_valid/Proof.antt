@@ -10,10 +10,10 @@ use Rattle.alf_validate_tables.proofs.SignedEntries.{signed_more}
 use Rattle.alf_validate_tables.proofs.entries.coefficients_valid.Statement.{statement}
 use Rattle.alf_validate_tables.proofs.entries.coefficients_valid.Tie as tie
 
-abbrev invariant-loop : tie.invariant-loop
+abbrev invariant-loop : tie.invariant-loop-i
 invariant-loop list good₀ i₀ good i = Sofar (length list) (λ k. coeff_valid (get_or list k (pos 0))) i good
 
-abbrev decreases-loop : tie.decreases-loop
+abbrev decreases-loop : tie.decreases-loop-i
 decreases-loop list good₀ i₀ good i = length list - i
 
 pub coefficients_valid_spec : {M : Type 1} → statement M
@@ -24,6 +24,6 @@ coefficients_valid_spec =
     (λ c.
     let l = c.before.before in
     let s = l.before.before in
-    signed_more (λ k z. coeff_valid z) s.args.list.now l.before.loop.invariant
-    l.loop-test.true c.before.coeff-valid-arg.given c.coeff-valid.ensures)
-    (λ c. every-done (pos 0) _ _ c.before.loop.invariant c.loop-test.false))
+    signed_more (λ k z. coeff_valid z) s.args.list.now l.before.loop-i.invariant
+    l.loop-i-test.true c.before.coeff_valid-arg-1.given c.coeff_valid-good.ensures)
+    (λ c. every-done (pos 0) _ _ c.before.loop-i.invariant c.loop-i-test.false))

@@ -14,17 +14,17 @@ use Rattle.alf_validate_tables.proofs.filter_tables.filter_tables_fault.Statemen
 use Rattle.alf_validate_tables.proofs.filter_tables.filter_tables_fault.Tie as tie
 
 -- where the function begins, seen from where three tests have passed
-abbrev start : tie.Else3 → tie.Start
+abbrev start : tie.Else-not-planes_valid → tie.Start
 start three = search rules
 
 -- the input that it is given
 abbrev input : tie.Start → Input
 input s =
-    tables_input s.args.picture s.args.slice-map.now s.args.slice_params_lem.now s.args.bank.now s.args.ctb-params.now
-    s.args.ctb-list.now s.args.fixed-filters.now s.args.fixed-map.now s.args.luma.now s.args.chroma.now
+    tables_input s.args.picture s.args.slice_map.now s.args.slice_params.now s.args.bank.now s.args.ctb_params.now
+    s.args.ctb_list.now s.args.fixed_filters.now s.args.fixed_map.now s.args.luma.now s.args.chroma.now
 
 -- where three tests have passed, what comes after them decides
-three-pass : (three : tie.Else3) {m rest : ℕ} → m ≡ rest → let i = input (start three) in
+three-pass : (three : tie.Else-not-planes_valid) {m rest : ℕ} → m ≡ rest → let i = input (start three) in
     let op = operation_of (start three).args.filter in
     m ≡ unless (parameters_valid i) 10 (unless (bank_valid i && implies (given op).fixed (fixed_valid i)) 11
     (unless (implies (given op).luma (samples_valid i.layout.picture i.luma)
@@ -33,12 +33,12 @@ unfolding bank_valid fixed_valid
 three-pass three e =
     let two = three.before.before in
     let one = two.before.before in
-    goes _ _ (parameters_of _ one.before.parameters-valid.ensures) one.if1.false
-    (goes _ _ two.before.filters-valid.ensures two.if2.false
-    (goes _ _ three.before.planes-valid.ensures three.if3.false e))
+    goes _ _ (parameters_of _ one.before.parameters_valid.ensures) one.if-not-parameters_valid.false-raw
+    (goes _ _ two.before.filters_valid.ensures two.if-not-filters_valid.false-raw
+    (goes _ _ three.before.planes_valid.ensures three.if-not-planes_valid.false-raw e))
 
 -- where the fourth has too
-four-pass : (four : tie.Else4) {m rest : ℕ} → m ≡ rest → let i = input (start four.before.before) in
+four-pass : (four : tie.Else-not-addresses_valid) {m rest : ℕ} → m ≡ rest → let i = input (start four.before.before) in
     let op = operation_of (start four.before.before).args.filter in
     m ≡ unless (parameters_valid i) 10 (unless (bank_valid i && implies (given op).fixed (fixed_valid i)) 11
     (unless (implies (given op).luma (samples_valid i.layout.picture i.luma)
@@ -46,30 +46,30 @@ four-pass : (four : tie.Else4) {m rest : ℕ} → m ≡ rest → let i = input (
 unfolding bank_valid fixed_valid
 four-pass four e =
     let three = four.before.before in
-    three-pass three (goes _ _ (addresses_of _ (start three).requires.full four.before.addresses_valid_lem.ensures) four.if4.false e)
+    three-pass three (goes _ _ (addresses_of _ (start three).requires.full four.before.addresses_valid.ensures) four.if-not-addresses_valid.false-raw e)
 
 pub filter_tables_fault_spec : {M : Type 1} → statement M
 unfolding filter_tables_fault bank_valid fixed_valid
 filter_tables_fault_spec =
     tie.close
     (tie.spec (λ c κs. search rules)
-    (λ c. stops _ _ (parameters_of _ c.before.parameters-valid.ensures) c.if1.true)
+    (λ c. stops _ _ (parameters_of _ c.before.parameters_valid.ensures) c.if-not-parameters_valid.true-raw)
     (λ c κs. search rules)
     (λ c.
     let one = c.before.before in
-    goes _ _ (parameters_of _ one.before.parameters-valid.ensures) one.if1.false
-    (stops _ _ c.before.filters-valid.ensures c.if2.true))
+    goes _ _ (parameters_of _ one.before.parameters_valid.ensures) one.if-not-parameters_valid.false-raw
+    (stops _ _ c.before.filters_valid.ensures c.if-not-filters_valid.true-raw))
     (λ c κs. search rules)
     (λ c.
     let two = c.before.before in
     let one = two.before.before in
-    goes _ _ (parameters_of _ one.before.parameters-valid.ensures) one.if1.false
-    (goes _ _ two.before.filters-valid.ensures two.if2.false
-    (stops _ _ c.before.planes-valid.ensures c.if3.true)))
+    goes _ _ (parameters_of _ one.before.parameters_valid.ensures) one.if-not-parameters_valid.false-raw
+    (goes _ _ two.before.filters_valid.ensures two.if-not-filters_valid.false-raw
+    (stops _ _ c.before.planes_valid.ensures c.if-not-planes_valid.true-raw)))
     (λ c κs. search rules)
     (λ c.
     let three = c.before.before in
-    three-pass three (stops _ _ (addresses_of _ (start three).requires.full c.before.addresses_valid_lem.ensures) c.if4.true))
+    three-pass three (stops _ _ (addresses_of _ (start three).requires.full c.before.addresses_valid.ensures) c.if-not-addresses_valid.true-raw))
     (λ c κs. search rules)
-    (λ c. four-pass c.before.before (stops _ _ c.before.cross-coeffs-valid.ensures c.if5.true))
-    (λ c. four-pass c.before.before (goes _ _ c.before.cross-coeffs-valid.ensures c.if5.false refl)))
+    (λ c. four-pass c.before.before (stops _ _ c.before.cross_coeffs_valid.ensures c.if-not-cross_coeffs_valid.true-raw))
+    (λ c. four-pass c.before.before (goes _ _ c.before.cross_coeffs_valid.ensures c.if-not-cross_coeffs_valid.false-raw refl)))

@@ -13,7 +13,7 @@ bank_number_valid_spec =
     (λ c κs. search rules) (λ c κs. search rules) (λ c κs. search rules)
     (λ c.
     let t = c.before.before in
-    rw (← t.is-clip.ensures, c.before.if1.true) (rw (to_z-of_z t.before.ranges.number) at c.clip-valid.ensures))
+    rw (← t.is_clip.ensures, c.before.if-is_clip.true) (rw (to_z-of_z t.before.ranges.number) at c.clip_valid.ensures))
     (λ c.
     let t = c.before.before in
-    rw (← t.is-clip.ensures, c.before.if1.false) (rw (to_z-of_z t.before.ranges.number) at c.coeff-valid.ensures)))
+    rw (← t.is_clip.ensures, c.before.if-is_clip.false) (rw (to_z-of_z t.before.ranges.number) at c.coeff_valid.ensures)))

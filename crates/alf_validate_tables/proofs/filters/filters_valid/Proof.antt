@@ -14,9 +14,9 @@ filters_valid_spec =
     (tie.spec
     (λ c κs. (depth_bounds _ c.before.requires).1)
     (λ c. search rules) (λ c κs. search rules) (λ c. search rules) (λ c. search rules)
-    (λ c. let bank : tie.After-bank-valid = search rules in
-    rw (c.before.enum_told.given.1, bank.bank-valid.ensures, c.fixed-valid.ensures))
-    (λ c. let bank : tie.After-bank-valid = search rules in
-    rw c.enum-told2.given.1 (bank.bank-valid.ensures ∙ sym (and-true _)))
-    (λ c. let bank : tie.After-bank-valid = search rules in
-    rw c.enum-told3.given.1 (bank.bank-valid.ensures ∙ sym (and-true _))))
+    (λ c. let bank : tie.After-bank_valid-bank_valid = search rules in
+    rw (c.before.in-Luma.is, bank.bank_valid-bank_valid.ensures, c.fixed_valid.ensures))
+    (λ c. let bank : tie.After-bank_valid-bank_valid = search rules in
+    rw c.in-Chroma.is (bank.bank_valid-bank_valid.ensures ∙ sym (and-true _)))
+    (λ c. let bank : tie.After-bank_valid-bank_valid = search rules in
+    rw c.in-CrossComponent.is (bank.bank_valid-bank_valid.ensures ∙ sym (and-true _))))

@@ -8,4 +8,4 @@ fixed_valid_spec =
     tie.close
     (tie.spec
     (λ c κs. search rules) (λ c κs. search rules)
-    (λ c. rw (c.before.coefficients-valid.ensures, c.bytes_below.ensures)))
+    (λ c. rw (c.before.coefficients_valid.ensures, c.bytes_below.ensures)))

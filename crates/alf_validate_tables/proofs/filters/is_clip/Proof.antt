@@ -6,4 +6,4 @@ use Rattle.alf_validate_tables.proofs.filters.is_clip.Tie as tie
 
 pub is_clip_spec : {M : Type 1} → statement M
 unfolding is_clip
-is_clip_spec = tie.close (tie.spec (λ c. simp (lt-ltb _ _ c.if1.true)) (λ c. simp (le-ltb _ _ c.if1.false)))
+is_clip_spec = tie.close (tie.spec (λ c. simp (lt-ltb _ _ c.if-n-lt600.true)) (λ c. simp (le-ltb _ _ c.if-n-lt600.false)))

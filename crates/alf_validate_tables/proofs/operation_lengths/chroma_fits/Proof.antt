@@ -21,5 +21,5 @@ chroma_fits_spec =
     (λ c κs. search rules) (λ c κs. search rules) (λ c κs. search rules)
     (λ c l e.
     let a = c.before.before.before.args in
-    rw e (c.plane-fits.ensures
-    ∙ (λ t. fits a.length a.picture (c.before.before.sub-width.ensures.0 t) (c.before.sub-height.ensures.0 t)))))
+    rw e (c.plane_fits.ensures
+    ∙ (λ t. fits a.length a.picture (c.before.before.sub_width-across.ensures.0 t) (c.before.sub_height-down.ensures.0 t)))))

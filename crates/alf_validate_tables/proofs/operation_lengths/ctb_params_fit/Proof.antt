@@ -7,4 +7,4 @@ pub ctb_params_fit_spec : {M : Type 1} → statement M
 ctb_params_fit_spec =
     tie.close
     (tie.spec
-    (λ c. eight_each c.args.slice-map c.args.ctb-params))
+    (λ c. eight_each c.args.slice_map c.args.ctb_params))

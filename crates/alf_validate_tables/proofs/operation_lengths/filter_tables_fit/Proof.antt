@@ -10,4 +10,4 @@ filter_tables_fit_spec =
     tie.close
     (tie.spec
     (λ c. search rules) (λ c. search rules) (λ c. search rules) (λ c κs. search rules)
-    (λ c full. rw (c.ctb-params-fit.ensures, full)))
+    (λ c full. rw (c.ctb_params_fit.ensures, full)))

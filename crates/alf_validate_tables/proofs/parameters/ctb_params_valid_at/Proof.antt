@@ -13,17 +13,17 @@ use Rattle.alf_validate_tables.proofs.parameters.ctb_params_valid_at.Statement.{
 use Rattle.alf_validate_tables.proofs.parameters.ctb_params_valid_at.Tie as tie
 
 -- where the function begins, seen from where the ranges are judged
-abbrev start : tie.After-ranges-valid → tie.Start
+abbrev start : tie.After-ranges_valid-ranges → tie.Start
 start judged = search rules
 
 -- the input that it is given
 abbrev input : tie.Start → Input
-input s = parameters_input s.args.picture s.args.slice-map.now s.args.slice_params_lem.now s.args.ctb-params.now
+input s = parameters_input s.args.picture s.args.slice_map.now s.args.slice_params.now s.args.ctb_params.now
 
 -- the count of luma APSs that the ranges are judged by is that of the CTB's slice
-counted : (judged : tie.After-ranges-valid) → let s = start judged in let i = input s in
-    slice_param i (ctb_of i.layout s.args.k) 0 ≡ judged.before.luma-aps-count.result
-counted judged = of_slice (input (start judged)) (start judged).args.k ∙ sym judged.before.luma-aps-count.ensures
+counted : (judged : tie.After-ranges_valid-ranges) → let s = start judged in let i = input s in
+    slice_param i (ctb_of i.layout s.args.k) 0 ≡ judged.before.luma_aps_count-count.result
+counted judged = of_slice (input (start judged)) (start judged).args.k ∙ sym judged.before.luma_aps_count-count.ensures
 
 pub ctb_params_valid_at_spec : {M : Type 1} → statement M
 unfolding ctb_params_valid_at
@@ -33,10 +33,10 @@ ctb_params_valid_at_spec =
     (λ c κs. let s = c.before.before.before in (s.requires.1, slice_params_lem _ _ _ _ s.requires.0 _ s.requires.1))
     (λ c κs. search rules) (λ c κs. search rules)
     (λ c.
-    let judged : tie.After-ranges-valid = search rules in
+    let judged : tie.After-ranges_valid-ranges = search rules in
     let i = input (start judged) in
-    rw (judged.ranges-valid.ensures i refl (counted judged), eq-eqb _ 0 c.before.if1.true, c.chroma-zero.ensures i refl))
+    rw (judged.ranges_valid-ranges.ensures i refl (counted judged), eq-eqb _ 0 c.before.if-picture-eq0.true, c.chroma_zero.ensures i refl))
     (λ c.
-    let judged : tie.After-ranges-valid = search rules in
+    let judged : tie.After-ranges_valid-ranges = search rules in
     let i = input (start judged) in
-    rw (judged.ranges-valid.ensures i refl (counted judged), ne_eqb _ 0 c.if1.false, and-true)))
+    rw (judged.ranges_valid-ranges.ensures i refl (counted judged), ne_eqb _ 0 c.if-picture-eq0.false, and-true)))

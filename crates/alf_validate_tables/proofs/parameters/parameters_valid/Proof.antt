@@ -12,4 +12,4 @@ parameters_valid_spec =
     (λ c κs. search rules) (λ c κs. search rules)
     (λ c.
     let s : tie.Start = search rules in
-    rw (c.before.slice-params-valid.ensures, c.ctb-params-valid.ensures, s.pre.1)))
+    rw (c.before.slice_params_valid.ensures, c.ctb_params_valid.ensures, s.requires.1)))

@@ -15,7 +15,7 @@ ranges_valid_spec =
     (tie.spec
     (λ c. search rules) (λ c. search rules) (λ c. search rules) (λ c. search rules) (λ c. search rules) (λ c. search rules)
     (λ c. search rules) (λ c. search rules)
-    (λ c. let start : tie.Start = search rules in omega (arith, c.shared-slice-known4.given (8 * start.args.k + 3)))
+    (λ c. let start : tie.Start = search rules in omega (arith, c.shared_slice_known-4-1.given (8 * start.args.k + 3)))
     (λ c. search rules) (λ c. search rules) (λ c. search rules) (λ c. search rules) (λ c. search rules) (λ c. search rules)
     (λ c. search rules) (λ c. search rules) (λ c. search rules)
     (λ c i same counted. let start : tie.Start = search rules in simp (counted, at_address i start.args.k, same, add-zero)))

@@ -10,4 +10,4 @@ pub region_length_valid_spec : {M : Type 1} → statement M
 unfolding region_length_valid plane_of
 region_length_valid_spec =
     tie.close
-    (tie.spec (λ c κs. search rules) (λ c l e. c.plane-fits.ensures ∙ rw e))
+    (tie.spec (λ c κs. search rules) (λ c l e. c.plane_fits.ensures ∙ rw e))

@@ -20,5 +20,5 @@ samples_valid_spec =
     (λ c κs. search rules)
     (λ c.
     let s = c.before.before.before in
-    c.samples-below.ensures
+    c.samples_below.ensures
     ∙ ap (λ (limit : ℕ). every (λ n. ltb n limit) s.args.plane.now) (one_shifted _ (depth_bounds _ s.requires).1)))

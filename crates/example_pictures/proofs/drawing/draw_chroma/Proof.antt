@@ -7,10 +7,10 @@ use lib.ListN.{length}
 use Rattle.example_pictures.proofs.drawing.draw_chroma.Statement.{statement}
 use Rattle.example_pictures.proofs.drawing.draw_chroma.Tie as tie
 
-abbrev invariant-loop : tie.invariant-loop
+abbrev invariant-loop : tie.invariant-loop-k
 invariant-loop columns chroma₀ k₀ chroma k = (k ≤ length chroma₀) × (length chroma ≡ length chroma₀)
 
-abbrev decreases-loop : tie.decreases-loop
+abbrev decreases-loop : tie.decreases-loop-k
 decreases-loop columns chroma₀ k₀ chroma k = length chroma₀ - k
 
 pub draw_chroma_spec : {M : Type 1} → statement M

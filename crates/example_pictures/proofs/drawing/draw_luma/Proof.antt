@@ -7,10 +7,10 @@ use lib.ListN.{length}
 use Rattle.example_pictures.proofs.drawing.draw_luma.Statement.{statement}
 use Rattle.example_pictures.proofs.drawing.draw_luma.Tie as tie
 
-abbrev invariant-loop : tie.invariant-loop
+abbrev invariant-loop : tie.invariant-loop-k
 invariant-loop luma₀ k₀ luma k = (k ≤ length luma₀) × (length luma ≡ length luma₀)
 
-abbrev decreases-loop : tie.decreases-loop
+abbrev decreases-loop : tie.decreases-loop-k
 decreases-loop luma₀ k₀ luma k = length luma₀ - k
 
 pub draw_luma_spec : {M : Type 1} → statement M

@@ -7,10 +7,10 @@ use lib.ListN.{length}
 use Rattle.example_pictures.proofs.tables.fill_bank.Statement.{statement}
 use Rattle.example_pictures.proofs.tables.fill_bank.Tie as tie
 
-abbrev invariant-loop : tie.invariant-loop
+abbrev invariant-loop : tie.invariant-loop-k
 invariant-loop bank₀ k₀ bank k = (k ≤ length bank₀) × (length bank ≡ length bank₀)
 
-abbrev decreases-loop : tie.decreases-loop
+abbrev decreases-loop : tie.decreases-loop-k
 decreases-loop bank₀ k₀ bank k = length bank₀ - k
 
 pub fill_bank_spec : {M : Type 1} → statement M

@@ -7,10 +7,10 @@ use lib.ListN.{length}
 use Rattle.example_pictures.proofs.tables.fill_fixed_filters.Statement.{statement}
 use Rattle.example_pictures.proofs.tables.fill_fixed_filters.Tie as tie
 
-abbrev invariant-loop : tie.invariant-loop
+abbrev invariant-loop : tie.invariant-loop-k
 invariant-loop filters₀ k₀ filters k = (k ≤ length filters₀) × (length filters ≡ length filters₀)
 
-abbrev decreases-loop : tie.decreases-loop
+abbrev decreases-loop : tie.decreases-loop-k
 decreases-loop filters₀ k₀ filters k = length filters₀ - k
 
 pub fill_fixed_filters_spec : {M : Type 1} → statement M

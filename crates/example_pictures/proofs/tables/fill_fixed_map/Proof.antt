@@ -7,10 +7,10 @@ use lib.ListN.{length}
 use Rattle.example_pictures.proofs.tables.fill_fixed_map.Statement.{statement}
 use Rattle.example_pictures.proofs.tables.fill_fixed_map.Tie as tie
 
-abbrev invariant-loop : tie.invariant-loop
+abbrev invariant-loop : tie.invariant-loop-k
 invariant-loop map₀ k₀ map k = (k ≤ length map₀) × (length map ≡ length map₀)
 
-abbrev decreases-loop : tie.decreases-loop
+abbrev decreases-loop : tie.decreases-loop-k
 decreases-loop map₀ k₀ map k = length map₀ - k
 
 pub fill_fixed_map_spec : {M : Type 1} → statement M
