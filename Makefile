@@ -24,7 +24,7 @@ test:
 
 lib:
 	@echo "Proving the library (the first time takes some minutes) ..."
-	@scripts/lib.sh
+	@scripts/build.sh alf_c
 
 bench: lib
 	@cd host && cargo build --quiet --release --offline -p bench
@@ -41,8 +41,7 @@ fuzz: lib
 
 examples:
 	@echo "Proving the examples (the first time takes some minutes) ..."
-	@log=$$(mktemp); rt check worked_examples judge_examples filter_examples cross_filters > $$log 2>&1 || \
-	    { cat $$log; rm -f $$log; exit 1; }; rm -f $$log
+	@scripts/build.sh worked_examples judge_examples filter_examples cross_filters
 	@./target/bin/worked_examples
 	@./target/bin/judge_examples
 	@./target/bin/filter_examples
@@ -50,8 +49,8 @@ examples:
 	@./target/bin/cross_filters < examples/cross_filters/offenders.bank
 
 check:
-	rt check
+	rt all check
 
 fmt:
-	rt fmt
+	for crate in crates/*/; do (cd $$crate && rt fmt) || exit 1; done
 	cd host && cargo fmt

@@ -14,9 +14,12 @@ wrong() {
     failed=1
 }
 
-# without comments, and without contracts, each of which ends with a line's ⌝ }
-code=$(for file in $files; do sed -E 's|//.*||; /^ *ghost use /d' "$file" | awk '/^ *(requires|ensures) / { on = 1 } on { if (/⌝ }$/) on = 0; next } 1'; done)
-beyond=$(grep '::' <<< "$code" | grep -vE '^use (alf_spec::[A-Z][a-z]+|crate::(products::product_less|tables::[a-z]+_entry));$')
+# without comments, and without contracts, each of which ends with a line's last }
+code=$(for file in $files; do sed -E 's|//.*||; /^ *ghost use /d' "$file" | awk '/^ *(requires|ensures) / { on = 1 } on { if (/}$/) on = 0; next } 1'; done)
+type='[A-Z][a-z]+'
+entry='[a-z]+_entry'
+beyond=$(grep '::' <<< "$code" |
+    grep -vE "^use (alf_spec::($type|\{$type(, $type)*\})|crate::(products::product_less|tables::($entry|\{$entry(, $entry)*\})));$")
 wide=$(grep -nE '\b([ui](64|128|size)|f(32|64))\b' <<< "$code")
 factors=$(grep -n '\*' <<< "$code" | grep -vF '(a as u32) * (b as u32)')
 [[ -z $beyond ]] || wrong "it calls code outside $files:" "$beyond"

@@ -43,6 +43,20 @@ counted() {
 # crates.txt names for each crate what it uses itself, and no more.
 dependencies() { diff <(grep -v '^#' crates.txt) <(scripts/dependencies.sh); }
 
+# The proofs, the edits and the programs. rt passes where an edit cannot be applied, compiled or read; here that fails.
+proofs() {
+    local report status
+    report=$(mktemp)
+    rt ci 2>&1 | tee "$report" | grep --line-buffered -vE '^[0-9]+ passed, [0-9]+ failed'
+    status=${PIPESTATUS[0]}
+    local last more=0
+    last=$(grep -E '^[0-9]+ passed, [0-9]+ failed' "$report" | tail -n 1)
+    if grep -qE '^rt: ok.*, [1-9][0-9]* bad' "$report"; then more=1; status=1; echo "FAILED: an edit that cannot be tried"; fi
+    rm -f "$report"
+    [[ $last =~ ^([0-9]+)\ passed,\ ([0-9]+)\ failed ]] && echo "${BASH_REMATCH[1]} passed, $((BASH_REMATCH[2] + more)) failed"
+    return "$status"
+}
+
 # The layout of the Rust sources, without a network or a registry.
 host_layout() { (cd host && cargo fmt --check --quiet); }
 
@@ -55,12 +69,11 @@ demo() {
 # The benchmark's C gives the same classes and samples as the library, on small pictures; nothing is timed here.
 bench_agrees() { (cd host && cargo build --quiet --release --offline -p bench) && target/cargo/release/bench --check; }
 
-single "layout of the sources" rt fmt --check
 single "layout of the host's sources" host_layout
 single "the crates that each crate names" dependencies
 single "the widths of what decides a class" scripts/class-widths.sh
-counted "proofs, must-fail edits and programs" rt ci
-single "the static library" scripts/lib.sh
+counted "proofs, must-fail edits and programs" proofs
+single "the static library" scripts/build.sh alf_c
 counted "the C interface from C" scripts/c-tests.sh
 counted "the library beside the model" scripts/host-tests.sh
 single "arbitrary arguments, short" scripts/fuzz.sh 200000

@@ -8,7 +8,7 @@ use Rattle.alf_spec.specs.declared.Grid.{Grid}
 use Rattle.alf_spec.specs.declared.Picture.{Picture}
 use Rattle.alf_spec.specs.declared.Sides.{Sides}
 use Rattle.alf_spec.specs.Input.{Layout}
-use Rattle.alf_spec.specs.Geometry.{ctb_size, plane_of, axis_of}
+use Rattle.alf_spec.specs.Geometry.{ctb_size, plane_of}
 use Rattle.alf_spec.specs.Boundary.{column_side, row_side}
 use Rattle.alf_spec.specs.Faults.{size_valid, ctb_size_valid, virtual_list_valid}
 use Rattle.alf_spec.proofs.Accepted.{AcceptedLayout, sizes_valid, lists_valid}

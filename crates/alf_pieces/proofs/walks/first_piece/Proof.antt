@@ -1,6 +1,5 @@
 -- `alf_pieces::walks::first_piece` meets its contract: both axes are walked from where the CTB begins. Assumes nothing.
 use mathlib.Core.Path.{◌∙◌}
-use native.Mathlib.Omega.{arith}
 use borrow.Author.Rules.{rules}
 use Rattle.alf_pieces.proofs.PieceWalk.{walk_start}
 use Rattle.alf_pieces.proofs.CtbWalks.{stands_at}

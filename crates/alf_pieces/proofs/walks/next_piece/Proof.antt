@@ -2,7 +2,6 @@
 use mathlib.Core.Path.{refl, ◌∙◌}
 use mathlib.Core.Logic.{inl, inr}
 use mathlib.Core.Bool.{false≢true}
-use native.Mathlib.Omega.{arith}
 use borrow.Author.Rules.{rules}
 use Rattle.alf_pieces.specs.Walks.{Turn, beside, below}
 use Rattle.alf_pieces.proofs.PieceWalk.{walk_start, walk_done}
