@@ -16,7 +16,7 @@ use Rattle.alf_spec.specs.Input.{Layout, Input}
 use Rattle.alf_spec.specs.Geometry.{sub_width, sub_height, plane_of, chroma_plane, samples, ctb_at, line_rule, bottom_distance}
 use Rattle.alf_spec.specs.Boundary.{column_side, row_side}
 use Rattle.alf_spec.specs.Arithmetic.{filtered}
-use Rattle.alf_spec.specs.Chroma.{chroma_rows, chroma_plus, chroma_minus, chroma_rows_at, chroma_read, chroma_with, chroma_sample}
+use Rattle.alf_spec.specs.Chroma.{chroma_plus, chroma_minus, chroma_rows_at, chroma_read, chroma_with, chroma_sample}
 use Rattle.alf_spec.specs.Process.{at_index}
 use Rattle.alf_spec.proofs.Axes.{Regular}
 use Rattle.alf_spec.proofs.LineCrossing.{chroma-read}

@@ -14,7 +14,7 @@ use Rattle.alf_spec.specs.declared.Fault.{Fault}
 use Rattle.alf_spec.specs.declared.Answer.{Answer}
 use Rattle.alf_spec.specs.declared.Answer.TheVariants.{Accepted, Rejected}
 use Rattle.alf_spec.specs.Answers.{fault_number, number}
-use Rattle.alf_spec.specs.Faults.{unless, fault}
+use Rattle.alf_spec.specs.Faults.{unless}
 use Rattle.alf_spec.proofs.Answers.{numbered, accepts}
 use Rattle.alf_bank.specs.declared.FilterId.{FilterId}
 use Rattle.alf_bank.specs.Filters.{order_of}

@@ -3,69 +3,94 @@
 // comes on standard input; one that is no bank file is answered with `refused` and the number.
 #![tactic(auto)]
 
+ghost use Rattle.std.specs.Prelude.{◌≡◌, ◌≤◌, ◌<◌, ◌↔◌, length, take, IfOk, IsTrue};
+ghost use Rattle.std.specs.Io.KnownBytes.{Consumes, IsAtEnd};
+
 use alf::{fault_number, next_offender, read_bank};
 use alf_bank::BankRead;
 use alf_cross_coeffs::{CrossFilter, Offender};
 use alf_print::{print, print_labelled, print_number};
 use alf_spec::Fault;
-use libc::{STDERR_FILENO, STDIN_FILENO};
+use std::io;
+use std::io::Read;
+use std::process::ExitCode;
 
 // A line of three numbers.
-fn print_filter(filter: CrossFilter) {
-    print_number(filter.aps as u32);
-    print_labelled(b" ", filter.component as u32);
-    print_labelled(b" ", filter.filter as u32);
-    print(b"\n");
+fn print_filter(rt: &impl Print, filter: CrossFilter) -> io::Result<()> {
+    print_number(rt, filter.aps as u32)?;
+    print_labelled(rt, b" ", filter.component as u32)?;
+    print_labelled(rt, b" ", filter.filter as u32)?;
+    print(rt, b"\n")
 }
 
 // A line for each filter that the search finds, one after the other.
-fn print_offenders(bank: &[i16]) {
+fn print_offenders(rt: &impl Print, bank: &[i16]) -> io::Result<()> {
     let mut at = 0;
     loop {
         match next_offender(bank, at) {
             Offender::Found { filter, next } => {
-                print_filter(filter);
+                print_filter(rt, filter)?;
                 at = next;
             }
             Offender::Nothing => {
-                return;
+                return Ok(());
             }
         }
     }
 }
 
-fn print_refused(fault: Fault) {
-    print_labelled(b"refused ", fault_number(fault) as u32);
-    print(b"\n");
+fn print_refused(rt: &impl Print, fault: Fault) -> io::Result<()> {
+    print_labelled(rt, b"refused ", fault_number(fault) as u32)?;
+    print(rt, b"\n")
 }
 
 // The filters of a bank file, or the number for which it is none.
-fn print_answer(file: &[u8]) {
+fn print_answer(rt: &impl Print, file: &[u8]) -> io::Result<()> {
     let mut bank = [0i16; 6016];
     match read_bank(file, &mut bank) {
-        BankRead::Read(_) => print_offenders(&bank),
-        BankRead::Rejected(fault) => print_refused(fault),
+        BankRead::Read(_) => print_offenders(rt, &bank),
+        BankRead::Rejected(fault) => print_refused(rt, fault),
     }
 }
 
-// Whether the input is at its end, where a read gave less than it was asked for. A read that failed gave less too, and what it left out
-// would be taken for the end of the file.
-fn ended() -> bool {
-    let mut next = [0u8; 1];
-    libc::read(STDIN_FILENO, &mut next) == 0
+// Whether the input is at its end, where a read gave so many bytes and had room for more. A read that failed gave none, but an error, and
+// what it left out is not taken for the end of the file.
+fn ended(read: usize) -> bool
+    ensures { IsTrue result ↔ (read ≡ 0) }
+{
+    read == 0
+}
+
+// Reads until the room is full or the input is at its end, and says how many bytes there are: the input's own, and where the room is not
+// full, all of them.
+fn read_full<R: Read>(input: &mut R, room: &mut [u8]) -> io::Result<usize>
+    ensures within { IfOk result (λ n. n ≤ length room.new) }
+    ensures bytes { IfOk result (λ n. Consumes (R.remaining input.old) (R.remaining input.new) (take n room.new)) }
+    ensures all { IfOk result (λ n. n < length room.new → IsAtEnd (R.remaining input.new)) }
+{
+    let mut n = 0;
+    while n < room.len() {
+        let read = input.read(&mut room[n..])?;
+        if ended(read) {
+            return Ok(n);
+        }
+        n += read;
+    }
+    Ok(n)
 }
 
 // The first 76,046 bytes decide: the longest bank file has 10,508, and the longest field that can begin behind them 65,538. What comes
 // after them can't change the answer (crates/bank_claims).
-fn main() {
+fn main(rt: HostRuntime) -> io::Result<ExitCode> {
     let mut input = [0u8; 76046];
-    let n = io::read_full(STDIN_FILENO, &mut input);
-    if n < input.len() && !ended() {
-        io::write_all(
-            STDERR_FILENO,
-            b"cross_filters: standard input can't be read\n",
-        );
-        return;
+    match read_full(&mut rt.reader(), &mut input) {
+        Ok(n) => {
+            print_answer(&rt, &input[..n])?;
+            Ok(ExitCode::SUCCESS)
+        }
+        Err(_) => {
+            eprintln!(rt; "cross_filters: standard input can't be read")?;
+            Ok(ExitCode::FAILURE)
+        }
     }
-    print_answer(&input[..n]);
 }

@@ -11,9 +11,11 @@ use example_pictures::layout::{
 use example_pictures::tables::{
     CTB_LIST, CTB_PARAMS, SLICE_PARAMS, fill_fixed_filters, fill_fixed_map,
 };
+use std::io;
 
 // The class map of a picture, so many blocks a row.
 pub fn show_classes(
+    rt: &impl Print,
     text: &[u8],
     picture: Picture,
     virtual_columns: &[u16],
@@ -25,7 +27,7 @@ pub fn show_classes(
     luma: &[u16],
     map: &mut [u8],
     columns: usize,
-) {
+) -> io::Result<()> {
     let answer = alf::classes(
         picture,
         virtual_columns,
@@ -38,12 +40,19 @@ pub fn show_classes(
         luma,
         map,
     );
-    print_answer(text, number(answer));
-    print_map(map, columns);
+    print_answer(rt, text, number(answer))?;
+    print_map(rt, map, columns)
 }
 
 // The luma filter of the picture, with these parameters of the CTBs.
-fn show_luma(text: &[u8], bank: &[i16], ctb_params: &[u8], luma: &[u16], output: &mut [u16]) {
+fn show_luma(
+    rt: &impl Print,
+    text: &[u8],
+    bank: &[i16],
+    ctb_params: &[u8],
+    luma: &[u16],
+    output: &mut [u16],
+) -> io::Result<()> {
     let mut fixed_filters = [0i16; 768];
     let mut fixed_map = [0u8; 400];
     fill_fixed_filters(&mut fixed_filters);
@@ -66,11 +75,17 @@ fn show_luma(text: &[u8], bank: &[i16], ctb_params: &[u8], luma: &[u16], output:
         luma,
         output,
     );
-    print_answer(text, number(answer));
+    print_answer(rt, text, number(answer))
 }
 
 // The chroma filter of a component.
-fn show_chroma(component: u8, bank: &[i16], chroma: &[u16], output: &mut [u16]) {
+fn show_chroma(
+    rt: &impl Print,
+    component: u8,
+    bank: &[i16],
+    chroma: &[u16],
+    output: &mut [u16],
+) -> io::Result<()> {
     let answer = alf::chroma(
         picture(),
         &VIRTUAL_COLUMNS,
@@ -88,11 +103,18 @@ fn show_chroma(component: u8, bank: &[i16], chroma: &[u16], output: &mut [u16]) 
         chroma,
         output,
     );
-    print_answer(b" filtered", number(answer));
+    print_answer(rt, b" filtered", number(answer))
 }
 
 // The cross-component filter of a component.
-fn show_corrected(component: u8, bank: &[i16], luma: &[u16], chroma: &[u16], output: &mut [u16]) {
+fn show_corrected(
+    rt: &impl Print,
+    component: u8,
+    bank: &[i16],
+    luma: &[u16],
+    chroma: &[u16],
+    output: &mut [u16],
+) -> io::Result<()> {
     let answer = alf::cross_component(
         picture(),
         &VIRTUAL_COLUMNS,
@@ -111,27 +133,34 @@ fn show_corrected(component: u8, bank: &[i16], luma: &[u16], chroma: &[u16], out
         chroma,
         output,
     );
-    print_answer(b" corrected from luma", number(answer));
+    print_answer(rt, b" corrected from luma", number(answer))
 }
 
 // Both filters of a component that is drawn with bars in so many columns.
-fn show_component(component: u8, name: &[u8], columns: usize, bank: &[i16], luma: &[u16]) {
+fn show_component(
+    rt: &impl Print,
+    component: u8,
+    name: &[u8],
+    columns: usize,
+    bank: &[i16],
+    luma: &[u16],
+) -> io::Result<()> {
     let mut chroma = [0u16; 400];
     let mut filtered = [0u16; 400];
     draw_chroma(columns, &mut chroma);
-    print(name);
-    print(b" before\n");
-    print_plane(&chroma, 20);
-    print(name);
-    show_chroma(component, bank, &chroma, &mut filtered);
-    print_plane(&filtered, 20);
-    print(name);
-    show_corrected(component, bank, luma, &filtered, &mut chroma);
-    print_plane(&chroma, 20);
+    print(rt, name)?;
+    print(rt, b" before\n")?;
+    print_plane(rt, &chroma, 20)?;
+    print(rt, name)?;
+    show_chroma(rt, component, bank, &chroma, &mut filtered)?;
+    print_plane(rt, &filtered, 20)?;
+    print(rt, name)?;
+    show_corrected(rt, component, bank, luma, &filtered, &mut chroma)?;
+    print_plane(rt, &chroma, 20)
 }
 
 // A region is five rows of five 8 by 8 blocks.
-fn show_isolation(text: &[u8], region: &[u8]) {
+fn show_isolation(rt: &impl Print, text: &[u8], region: &[u8]) -> io::Result<()> {
     let answer = alf::isolated(
         picture(),
         &VIRTUAL_COLUMNS,
@@ -143,51 +172,55 @@ fn show_isolation(text: &[u8], region: &[u8]) {
         &SUBPIC_ACROSS,
         region,
     );
-    print_isolation(text, isolation_number(answer), answer);
+    print_isolation(rt, text, isolation_number(answer), answer)
 }
 
 // Two regions, of which one is isolated.
-fn show_regions() {
+fn show_regions(rt: &impl Print) -> io::Result<()> {
     show_isolation(
+        rt,
         b"region: the first CTB left of the virtual column",
         b"\x01\x01\x00\x00\x00\x01\x01\x00\x00\x00\x01\x01\x00\x00\x00\x01\x01\x00\x00\x00\x00\x00\x00\x00\x00",
-    );
+    )?;
     show_isolation(
+        rt,
         b"region: the last CTB",
         b"\x00\x00\x00\x00\x00\x00\x00\x00\x00\x00\x00\x00\x00\x00\x00\x00\x00\x00\x00\x00\x00\x00\x00\x00\x01",
-    );
+    )
 }
 
 // The first CTB with luma set 17, the second APS of a slice that has one.
-fn show_rejected(bank: &[i16], luma: &[u16]) {
+fn show_rejected(rt: &impl Print, bank: &[i16], luma: &[u16]) -> io::Result<()> {
     let mut output = [7u16; 1600];
     let mut params = CTB_PARAMS;
     params[3] = 17;
     show_luma(
+        rt,
         b"luma with a set that the slice does not have",
         bank,
         &params,
         luma,
         &mut output,
-    );
-    print(b"the first row of its output, as it was\n");
-    print_plane(&output[0..40], 40);
+    )?;
+    print(rt, b"the first row of its output, as it was\n")?;
+    print_plane(rt, &output[0..40], 40)
 }
 
 // The filters of luma, of Cb and of Cr.
-fn show_filters(bank: &[i16], luma: &[u16]) {
+fn show_filters(rt: &impl Print, bank: &[i16], luma: &[u16]) -> io::Result<()> {
     let mut output = [0u16; 1600];
-    show_luma(b"luma filtered", bank, &CTB_PARAMS, luma, &mut output);
-    print_plane(&output, 40);
-    show_component(0, b"Cb", 18, bank, luma);
-    show_component(1, b"Cr", 11, bank, luma);
+    show_luma(rt, b"luma filtered", bank, &CTB_PARAMS, luma, &mut output)?;
+    print_plane(rt, &output, 40)?;
+    show_component(rt, 0, b"Cb", 18, bank, luma)?;
+    show_component(rt, 1, b"Cr", 11, bank, luma)
 }
 
 // All operations, in turn, and last an input that is rejected.
-pub fn show_picture(bank: &[i16], luma: &[u16], map: &mut [u8]) {
-    print(b"luma before\n");
-    print_plane(luma, 40);
+pub fn show_picture(rt: &impl Print, bank: &[i16], luma: &[u16], map: &mut [u8]) -> io::Result<()> {
+    print(rt, b"luma before\n")?;
+    print_plane(rt, luma, 40)?;
     show_classes(
+        rt,
         b"class:transpose of each 4 by 4 block",
         picture(),
         &VIRTUAL_COLUMNS,
@@ -199,8 +232,8 @@ pub fn show_picture(bank: &[i16], luma: &[u16], map: &mut [u8]) {
         luma,
         map,
         10,
-    );
-    show_filters(bank, luma);
-    show_regions();
-    show_rejected(bank, luma);
+    )?;
+    show_filters(rt, bank, luma)?;
+    show_regions(rt)?;
+    show_rejected(rt, bank, luma)
 }

@@ -2,10 +2,19 @@
 use alf_spec::Picture;
 use example_pictures::textures::{draw_textures, textured_picture};
 use example_runs::show_classes;
+use std::io;
 
 // The map with these virtual columns: one tile, slice and subpicture, of two by two CTBs.
-fn show_map(text: &[u8], picture: Picture, virtual_columns: &[u16], luma: &[u16], map: &mut [u8]) {
+fn show_map(
+    rt: &impl Print,
+    text: &[u8],
+    picture: Picture,
+    virtual_columns: &[u16],
+    luma: &[u16],
+    map: &mut [u8],
+) -> io::Result<()> {
     show_classes(
+        rt,
         text,
         picture,
         virtual_columns,
@@ -17,32 +26,35 @@ fn show_map(text: &[u8], picture: Picture, virtual_columns: &[u16], luma: &[u16]
         luma,
         map,
         16,
-    );
+    )
 }
 
-pub fn show() {
+pub fn show(rt: &impl Print) -> io::Result<()> {
     let mut luma = [0u16; 3072];
     let mut map = [255u8; 192];
     draw_textures(&mut luma);
     show_map(
+        rt,
         b"class:transpose of each 4 by 4 block: flat, upright bars, slanted bars, level bars",
         textured_picture(),
         &[],
         &luma,
         &mut map,
-    );
+    )?;
     show_map(
+        rt,
         b"the same with a virtual column at 24",
         textured_picture(),
         &[24],
         &luma,
         &mut map,
-    );
+    )?;
     show_map(
+        rt,
         b"a virtual column at 28 is rejected, and the map stays as it was",
         textured_picture(),
         &[28],
         &luma,
         &mut map,
-    );
+    )
 }

@@ -5,7 +5,9 @@
 mod class_maps;
 mod filtered;
 
-fn main() {
-    filtered::show();
-    class_maps::show();
+use std::io;
+
+fn main(rt: HostRuntime) -> io::Result<()> {
+    filtered::show(&rt)?;
+    class_maps::show(&rt)
 }

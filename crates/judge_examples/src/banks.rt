@@ -5,34 +5,35 @@ use crate::show_fault;
 use alf::{read_bank, write_bank};
 use alf_bank::{BankRead, BankWritten};
 use alf_print::{print, print_labelled};
+use std::io;
 
-fn show_answer(answer: BankRead) {
+fn show_answer(rt: &impl Print, answer: BankRead) -> io::Result<()> {
     match answer {
         BankRead::Read(depth) => {
-            print_labelled(b"bit depth ", depth as u32);
-            print(b"\n");
+            print_labelled(rt, b"bit depth ", depth as u32)?;
+            print(rt, b"\n")
         }
-        BankRead::Rejected(fault) => show_fault(fault),
+        BankRead::Rejected(fault) => show_fault(rt, fault),
     }
 }
 
 // What the reader says of a file.
-fn show_file(text: &[u8], file: &[u8]) {
+fn show_file(rt: &impl Print, text: &[u8], file: &[u8]) -> io::Result<()> {
     let mut bank = [0i16; 6016];
-    print(b"  ");
-    print(text);
-    print(b" -> ");
-    show_answer(read_bank(file, &mut bank));
+    print(rt, b"  ")?;
+    print(rt, text)?;
+    print(rt, b" -> ")?;
+    show_answer(rt, read_bank(file, &mut bank))
 }
 
 // What the writer says of a bank at bit depth 10.
-fn show_written(text: &[u8], answer: BankWritten) {
+fn show_written(rt: &impl Print, text: &[u8], answer: BankWritten) -> io::Result<()> {
     match answer {
         BankWritten::Written(length) => {
-            print_labelled(text, length);
-            print(b"\n");
+            print_labelled(rt, text, length)?;
+            print(rt, b"\n")
         }
-        BankWritten::Rejected(fault) => show_fault(fault),
+        BankWritten::Rejected(fault) => show_fault(rt, fault),
     }
 }
 
@@ -43,67 +44,80 @@ fn first_bytes(file: &[u8], n: usize) -> &[u8]
 }
 
 // The file is 17 bytes long: 4 of the depth's field, 13 of the filter's.
-fn show_again(file: &[u8]) {
+fn show_again(rt: &impl Print, file: &[u8]) -> io::Result<()> {
     if file.len() < 17 {
-        return;
+        return Ok(());
     }
     let mut bank = [255i16; 6016];
-    print(b"  read back -> ");
-    show_answer(read_bank(first_bytes(file, 17), &mut bank));
+    print(rt, b"  read back -> ")?;
+    show_answer(rt, read_bank(first_bytes(file, 17), &mut bank))?;
     let mut again = [0u8; 10508];
     show_written(
+        rt,
         b"  written again -> bytes ",
         write_bank(10, &bank, &mut again),
-    );
+    )
 }
 
 // A bank with one filter: Cb's cross-component filter 1 of APS 2, whose numbers begin at 2 * 752 + 696 + 7.
-fn show_round_trip() {
+fn show_round_trip(rt: &impl Print) -> io::Result<()> {
     let mut bank = [0i16; 6016];
     bank[2207] = 4;
     bank[2213] = -1;
     let mut file = [255u8; 10508];
-    show_written(b"  one filter -> bytes ", write_bank(10, &bank, &mut file));
-    show_again(&file);
+    show_written(
+        rt,
+        b"  one filter -> bytes ",
+        write_bank(10, &bank, &mut file),
+    )?;
+    show_again(rt, &file)
 }
 
 // Files with no filter.
-fn show_without_filter() {
-    show_file(b"no byte", b"");
-    show_file(b"a bit depth alone", b"\x01\x00\x01\x08");
-    show_file(b"bit depth 7", b"\x01\x00\x01\x07");
-    show_file(b"a field cut short", b"\x01\x00\x01\x08\x04\x00");
-    show_file(b"tag 5", b"\x01\x00\x01\x08\x05\x00\x00");
-    show_file(b"a second bit depth", b"\x01\x00\x01\x08\x01\x00\x01\x08");
+fn show_without_filter(rt: &impl Print) -> io::Result<()> {
+    show_file(rt, b"no byte", b"")?;
+    show_file(rt, b"a bit depth alone", b"\x01\x00\x01\x08")?;
+    show_file(rt, b"bit depth 7", b"\x01\x00\x01\x07")?;
+    show_file(rt, b"a field cut short", b"\x01\x00\x01\x08\x04\x00")?;
+    show_file(rt, b"tag 5", b"\x01\x00\x01\x08\x05\x00\x00")?;
+    show_file(
+        rt,
+        b"a second bit depth",
+        b"\x01\x00\x01\x08\x01\x00\x01\x08",
+    )
 }
 
 // A bit depth of 8, and Cr's first cross-component filter or one that there is not.
-fn show_cross_component() {
+fn show_cross_component(rt: &impl Print) -> io::Result<()> {
     show_file(
+        rt,
         b"component 2",
         b"\x01\x00\x01\x08\x04\x00\x0a\x00\x02\x00\x01\x00\x00\x00\x00\x00\x00",
-    );
+    )?;
     show_file(
+        rt,
         b"an all-zero filter",
         b"\x01\x00\x01\x08\x04\x00\x0a\x00\x01\x00\x00\x00\x00\x00\x00\x00\x00",
-    );
+    )
 }
 
 // A bit depth of 8, and a chroma alternative with one clip.
-fn show_clips() {
+fn show_clips(rt: &impl Print) -> io::Result<()> {
     show_file(
+        rt,
         b"clip 256 of 8 bits",
         b"\x01\x00\x01\x08\x03\x00\x14\x00\x00\x00\x00\x00\x00\x00\x00\x01\x00\x00\x00\x00\x00\x00\x00\x00\x00\x00\x00",
-    );
+    )?;
     show_file(
+        rt,
         b"clip 257 of 8 bits",
         b"\x01\x00\x01\x08\x03\x00\x14\x00\x00\x00\x00\x00\x00\x00\x00\x01\x01\x00\x00\x00\x00\x00\x00\x00\x00\x00\x00",
-    );
+    )
 }
 
-pub fn show_banks() {
-    show_round_trip();
-    show_without_filter();
-    show_cross_component();
-    show_clips();
+pub fn show_banks(rt: &impl Print) -> io::Result<()> {
+    show_round_trip(rt)?;
+    show_without_filter(rt)?;
+    show_cross_component(rt)?;
+    show_clips(rt)
 }

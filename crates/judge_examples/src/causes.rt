@@ -5,29 +5,30 @@ use alf::clip_causes;
 use alf_print::{print, print_cause, print_number};
 use alf_spec::{ClipCauses, Picture, SideCauses};
 use example_pictures::layout::plain;
+use std::io;
 
 // Top, bottom, left, right.
-fn show_sides(causes: SideCauses) {
+fn show_sides(rt: &impl Print, causes: SideCauses) -> io::Result<()> {
     let top = causes.top;
     let bottom = causes.bottom;
     let left = causes.left;
     let right = causes.right;
-    print_cause(top);
-    print(b"; ");
-    print_cause(bottom);
-    print(b"; ");
-    print_cause(left);
-    print(b"; ");
-    print_cause(right);
-    print(b"\n");
+    print_cause(rt, top)?;
+    print(rt, b"; ")?;
+    print_cause(rt, bottom)?;
+    print(rt, b"; ")?;
+    print_cause(rt, left)?;
+    print(rt, b"; ")?;
+    print_cause(rt, right)?;
+    print(rt, b"\n")
 }
 
-fn show_at(x: u32, y: u32) {
-    print(b"  (");
-    print_number(x);
-    print(b",");
-    print_number(y);
-    print(b") -> ");
+fn show_at(rt: &impl Print, x: u32, y: u32) -> io::Result<()> {
+    print(rt, b"  (")?;
+    print_number(rt, x)?;
+    print(rt, b",")?;
+    print_number(rt, y)?;
+    print(rt, b") -> ")?;
     let answer = clip_causes(
         Picture {
             slice_count: 2,
@@ -45,21 +46,21 @@ fn show_at(x: u32, y: u32) {
         y,
     );
     match answer {
-        ClipCauses::Named(causes) => show_sides(causes),
-        ClipCauses::Rejected(fault) => show_fault(fault),
+        ClipCauses::Named(causes) => show_sides(rt, causes),
+        ClipCauses::Rejected(fault) => show_fault(rt, fault),
     }
 }
 
 // At the picture's rim; 5 rows above the line-buffer boundary, and 4; below it; beside the virtual column; on both sides of the slices'
 // border; outside.
-pub fn show_causes() {
-    show_at(0, 0);
-    show_at(8, 23);
-    show_at(8, 24);
-    show_at(8, 28);
-    show_at(18, 8);
-    show_at(31, 24);
-    show_at(32, 31);
-    show_at(64, 0);
-    show_at(0, 32);
+pub fn show_causes(rt: &impl Print) -> io::Result<()> {
+    show_at(rt, 0, 0)?;
+    show_at(rt, 8, 23)?;
+    show_at(rt, 8, 24)?;
+    show_at(rt, 8, 28)?;
+    show_at(rt, 18, 8)?;
+    show_at(rt, 31, 24)?;
+    show_at(rt, 32, 31)?;
+    show_at(rt, 64, 0)?;
+    show_at(rt, 0, 32)
 }

@@ -6,6 +6,7 @@ use alf_print::{print, print_number};
 use alf_spec::{Answer, Filter, Picture};
 use alf_validate::{judge_filter, judge_isolation};
 use example_pictures::layout::plain;
+use std::io;
 
 // Whether cause n is one of those to break.
 fn breaks(n: u32, first: u32, last: u32) -> bool {
@@ -117,33 +118,32 @@ fn judged_region(last: u8) -> Answer {
 }
 
 // What is answered where this cause alone is broken, and where all from it to 13 are.
-fn show_number(n: u32) {
-    print(b"  ");
-    print_number(n);
-    print(b" -> ");
-    print_number(number(judged(n, n, 0, 0, 0, 0)) as u32);
-    print(b", ");
-    print_number(number(judged(n, 13, 0, 0, 0, 0)) as u32);
-    print(b"\n");
+fn show_number(rt: &impl Print, n: u32) -> io::Result<()> {
+    print(rt, b"  ")?;
+    print_number(rt, n)?;
+    print(rt, b" -> ")?;
+    print_number(rt, number(judged(n, n, 0, 0, 0, 0)) as u32)?;
+    print(rt, b", ")?;
+    print_number(rt, number(judged(n, 13, 0, 0, 0, 0)) as u32)?;
+    print(rt, b"\n")
 }
 
 // A line for each number from 1 to 13.
-fn show_numbers() {
-    let mut n = 1;
-    while n <= 13 {
-        show_number(n);
-        n += 1;
+fn show_numbers(rt: &impl Print) -> io::Result<()> {
+    for n in 1..=13 {
+        show_number(rt, n)?;
     }
+    Ok(())
 }
 
 // A line for each number, and one for what is sound.
-pub fn show_all() {
-    show_numbers();
-    print(b"  14 -> ");
-    print_number(number(judged_region(2)) as u32);
-    print(b"\n  none -> ");
-    print_number(number(judged(15, 15, 0, 0, 0, 0)) as u32);
-    print(b", ");
-    print_number(number(judged_region(1)) as u32);
-    print(b"\n");
+pub fn show_all(rt: &impl Print) -> io::Result<()> {
+    show_numbers(rt)?;
+    print(rt, b"  14 -> ")?;
+    print_number(rt, number(judged_region(2)) as u32)?;
+    print(rt, b"\n  none -> ")?;
+    print_number(rt, number(judged(15, 15, 0, 0, 0, 0)) as u32)?;
+    print(rt, b", ")?;
+    print_number(rt, number(judged_region(1)) as u32)?;
+    print(rt, b"\n")
 }

@@ -5,19 +5,20 @@ use alf_direction::direction::class_of_sums;
 use alf_direction::products::product_less;
 use alf_print::{print, print_number};
 use alf_spec::Sums;
+use std::io;
 
 // Sums, and their class and transpose with factor 2.
-pub fn show_class(v: u32, h: u32, d0: u32, d1: u32, depth: u32)
+pub fn show_class(rt: &impl Print, v: u32, h: u32, d0: u32, d1: u32, depth: u32) -> io::Result<()>
     requires { (v < 2 ^ 18) × (h < 2 ^ 18) × (d0 < 2 ^ 18) × (d1 < 2 ^ 18) × (8 ≤ depth) × (depth ≤ 12) }
 {
-    print(b"  V ");
-    print_number(v);
-    print(b"  H ");
-    print_number(h);
-    print(b"  D0 ");
-    print_number(d0);
-    print(b"  D1 ");
-    print_number(d1);
+    print(rt, b"  V ")?;
+    print_number(rt, v)?;
+    print(rt, b"  H ")?;
+    print_number(rt, h)?;
+    print(rt, b"  D0 ")?;
+    print_number(rt, d0)?;
+    print(rt, b"  D1 ")?;
+    print_number(rt, d1)?;
     let class = class_of_sums(
         Sums {
             v: v,
@@ -28,47 +29,47 @@ pub fn show_class(v: u32, h: u32, d0: u32, d1: u32, depth: u32)
         2,
         depth,
     );
-    print(b" -> class ");
-    print_number(class.filter);
-    print(b", transpose ");
-    print_number(class.transpose);
+    print(rt, b" -> class ")?;
+    print_number(rt, class.filter)?;
+    print(rt, b", transpose ")?;
+    print_number(rt, class.transpose)
 }
 
 // Large sums at depth 12, and a comparison of products of theirs.
-fn show_large(v: u32, h: u32, d0: u32, d1: u32)
+fn show_large(rt: &impl Print, v: u32, h: u32, d0: u32, d1: u32) -> io::Result<()>
     requires { (v < 2 ^ 18) × (h < 2 ^ 18) × (d0 < 2 ^ 18) × (d1 < 2 ^ 18) }
 {
-    print(b"   ");
-    show_class(v, h, d0, d1, 12);
+    print(rt, b"   ")?;
+    show_class(rt, v, h, d0, d1, 12)?;
     if product_less(v, h, d0, d1) {
-        print(b", V * H < D0 * D1: yes\n");
+        print(rt, b", V * H < D0 * D1: yes\n")
     } else {
-        print(b", V * H < D0 * D1: no\n");
+        print(rt, b", V * H < D0 * D1: no\n")
     }
 }
 
 // Sums that are less by one, each in turn.
-fn show_one_less(v: u32, h: u32, d0: u32, d1: u32)
+fn show_one_less(rt: &impl Print, v: u32, h: u32, d0: u32, d1: u32) -> io::Result<()>
     requires { (0 < v) × (v < 2 ^ 18) × (0 < h) × (h < 2 ^ 18) × (0 < d0) × (d0 < 2 ^ 18) × (0 < d1) × (d1 < 2 ^ 18) }
 {
-    show_large(v - 1, h, d0, d1);
-    show_large(v, h - 1, d0, d1);
-    show_large(v, h, d0 - 1, d1);
-    show_large(v, h, d0, d1 - 1);
+    show_large(rt, v - 1, h, d0, d1)?;
+    show_large(rt, v, h - 1, d0, d1)?;
+    show_large(rt, v, h, d0 - 1, d1)?;
+    show_large(rt, v, h, d0, d1 - 1)
 }
 
 // At 12 bits 32 second differences of up to 8,190 make a sum of up to 262,080: four times that, and one off in each.
-pub fn show_largest() {
-    show_large(262080, 262080, 262080, 262080);
-    show_one_less(262080, 262080, 262080, 262080);
-    show_large(262081, 262080, 262080, 262080);
-    show_large(262080, 262081, 262080, 262080);
-    show_large(262080, 262080, 262081, 262080);
-    show_large(262080, 262080, 262080, 262081);
+pub fn show_largest(rt: &impl Print) -> io::Result<()> {
+    show_large(rt, 262080, 262080, 262080, 262080)?;
+    show_one_less(rt, 262080, 262080, 262080, 262080)?;
+    show_large(rt, 262081, 262080, 262080, 262080)?;
+    show_large(rt, 262080, 262081, 262080, 262080)?;
+    show_large(rt, 262080, 262080, 262081, 262080)?;
+    show_large(rt, 262080, 262080, 262080, 262081)
 }
 
 // Both gradients of one strength, 3 to 1, and one less in each sum: which is the main one shows in the class.
-pub fn show_ties() {
-    show_large(262080, 87360, 262080, 87360);
-    show_one_less(262080, 87360, 262080, 87360);
+pub fn show_ties(rt: &impl Print) -> io::Result<()> {
+    show_large(rt, 262080, 87360, 262080, 87360)?;
+    show_one_less(rt, 262080, 87360, 262080, 87360)
 }

@@ -12,81 +12,86 @@ use alf_direction::direction::activity;
 use alf_math::rounding::{filtered, rounded};
 use alf_math::taps::tap;
 use alf_print::{print, print_integer, print_number};
+use std::io;
 
 // A number, and what comes of it.
-fn show(n: i32, r: i32) {
-    print(b"  ");
-    print_integer(n);
-    print(b" -> ");
-    print_integer(r);
+fn show(rt: &impl Print, n: i32, r: i32) -> io::Result<()> {
+    print(rt, b"  ")?;
+    print_integer(rt, n)?;
+    print(rt, b" -> ")?;
+    print_integer(rt, r)
 }
 
 // A sum, rounded.
-fn show_rounded(sum: i32, shift: u32)
+fn show_rounded(rt: &impl Print, sum: i32, shift: u32) -> io::Result<()>
     requires { (nat_abs sum ≤ 2 ^ 20) × (shift < 32) }
 {
-    show(sum, rounded(sum, shift));
+    show(rt, sum, rounded(sum, shift))
 }
 
 // V + H, and the activity at depth 10 with factor 2.
-fn show_activity(total: u32)
+fn show_activity(rt: &impl Print, total: u32) -> io::Result<()>
     requires { total < 2 ^ 19 }
 {
-    print(b"  ");
-    print_number(total);
-    print(b" -> ");
-    print_number(activity(total, 2, 10));
+    print(rt, b"  ")?;
+    print_number(rt, total)?;
+    print(rt, b" -> ")?;
+    print_number(rt, activity(total, 2, 10))
 }
 
 // A clip, and sample 10 filtered with it: right 14, left 10, coefficient 11 alone set, to 64.
-fn show_filtered(c: i16)
+fn show_filtered(rt: &impl Print, c: i16) -> io::Result<()>
     requires { ClipRange c }
 {
-    show(c as i32, filtered(10, tap(10, 64, c, 14, 10), 7, 8) as i32);
+    show(
+        rt,
+        c as i32,
+        filtered(10, tap(10, 64, c, 14, 10), 7, 8) as i32,
+    )
 }
 
-fn main() {
-    print(b"P1   rounded by shift 7:");
-    show_rounded(-65, 7);
-    show_rounded(-64, 7);
-    show_rounded(63, 7);
-    show_rounded(64, 7);
-    print(b"\nP2   rounded by shift 10:");
-    show_rounded(959, 10);
-    show_rounded(960, 10);
-    print(b"\nP3 ");
-    classes::show_class(0, 0, 0, 0, 8);
-    print(b"\nP4 ");
-    classes::show_class(10, 2, 4, 4, 8);
-    print(b"\nP5 ");
-    classes::show_class(9, 2, 4, 4, 8);
-    print(b"\nP6 ");
-    classes::show_class(3, 3, 8, 1, 8);
-    print(b"\nP7 ");
-    classes::show_class(5, 0, 7, 0, 8);
-    print(b"\nP8   activity of V + H, depth 10:");
-    show_activity(3839);
-    show_activity(3840);
-    print(b"\n     largest sums, depth 12:\n");
-    classes::show_largest();
-    classes::show_ties();
-    print(b"P9   clip positions, CTB of 32:");
-    positions::show_below(4, 23);
-    positions::show_below(4, 24);
-    positions::show_above(4, 28);
-    print(b"\n     for chroma of full height:");
-    positions::show_below(2, 25);
-    positions::show_below(2, 26);
-    positions::show_above(2, 29);
-    positions::show_above(2, 30);
-    print(b"\nP10  read from the CTB at (32,32):");
-    positions::show_corner();
-    print(b"\nP11  line rule of the CTB at row 32:");
-    positions::show_line_rule(64);
-    positions::show_line_rule(56);
-    print(b"\nP12  filtered sample by clip:");
-    show_filtered(256);
-    show_filtered(3);
-    show_filtered(2);
-    print(b"\n");
+fn main(rt: HostRuntime) -> io::Result<()> {
+    print(&rt, b"P1   rounded by shift 7:")?;
+    show_rounded(&rt, -65, 7)?;
+    show_rounded(&rt, -64, 7)?;
+    show_rounded(&rt, 63, 7)?;
+    show_rounded(&rt, 64, 7)?;
+    print(&rt, b"\nP2   rounded by shift 10:")?;
+    show_rounded(&rt, 959, 10)?;
+    show_rounded(&rt, 960, 10)?;
+    print(&rt, b"\nP3 ")?;
+    classes::show_class(&rt, 0, 0, 0, 0, 8)?;
+    print(&rt, b"\nP4 ")?;
+    classes::show_class(&rt, 10, 2, 4, 4, 8)?;
+    print(&rt, b"\nP5 ")?;
+    classes::show_class(&rt, 9, 2, 4, 4, 8)?;
+    print(&rt, b"\nP6 ")?;
+    classes::show_class(&rt, 3, 3, 8, 1, 8)?;
+    print(&rt, b"\nP7 ")?;
+    classes::show_class(&rt, 5, 0, 7, 0, 8)?;
+    print(&rt, b"\nP8   activity of V + H, depth 10:")?;
+    show_activity(&rt, 3839)?;
+    show_activity(&rt, 3840)?;
+    print(&rt, b"\n     largest sums, depth 12:\n")?;
+    classes::show_largest(&rt)?;
+    classes::show_ties(&rt)?;
+    print(&rt, b"P9   clip positions, CTB of 32:")?;
+    positions::show_below(&rt, 4, 23)?;
+    positions::show_below(&rt, 4, 24)?;
+    positions::show_above(&rt, 4, 28)?;
+    print(&rt, b"\n     for chroma of full height:")?;
+    positions::show_below(&rt, 2, 25)?;
+    positions::show_below(&rt, 2, 26)?;
+    positions::show_above(&rt, 2, 29)?;
+    positions::show_above(&rt, 2, 30)?;
+    print(&rt, b"\nP10  read from the CTB at (32,32):")?;
+    positions::show_corner(&rt)?;
+    print(&rt, b"\nP11  line rule of the CTB at row 32:")?;
+    positions::show_line_rule(&rt, 64)?;
+    positions::show_line_rule(&rt, 56)?;
+    print(&rt, b"\nP12  filtered sample by clip:")?;
+    show_filtered(&rt, 256)?;
+    show_filtered(&rt, 3)?;
+    show_filtered(&rt, 2)?;
+    print(&rt, b"\n")
 }

@@ -8,24 +8,25 @@ use alf_pieces::copies::{copy_piece, extent};
 use alf_pieces::pieces::piece_at;
 use alf_print::{print, print_cause, print_number};
 use alf_spec::{ClipCause, Ctb, Picture};
+use std::io;
 
-fn show_clip(y: u32, found: FoundClip) {
-    print_number(y);
+fn show_clip(rt: &impl Print, y: u32, found: FoundClip) -> io::Result<()> {
+    print_number(rt, y)?;
     match found {
         FoundClip::At(clip) => {
-            print(b" -> ");
-            print_number(clip.position);
-            print(b", ");
+            print(rt, b" -> ")?;
+            print_number(rt, clip.position)?;
+            print(rt, b", ")?;
             let cause = clip.cause;
-            print_cause(cause);
+            print_cause(rt, cause)
         }
-        FoundClip::Nowhere => print(b" -> none"),
+        FoundClip::Nowhere => print(rt, b" -> none"),
     }
 }
 
 // The clip position below row y of the CTB at 0, or above it, where the line lies so many rows above its bottom: no virtual rows, sides
 // open.
-fn show_beside(after: bool, line: u32, y: u32)
+fn show_beside(rt: &impl Print, after: bool, line: u32, y: u32) -> io::Result<()>
     requires { (line ≤ 4) × (y ≤ 31) }
 {
     let boundaries = [0u16; 1];
@@ -38,46 +39,44 @@ fn show_beside(after: bool, line: u32, y: u32)
         after: ClipCause::Open,
         place: 0,
     };
-    show_clip(y, find_clip(axis, &boundaries[..none], after, y));
+    show_clip(rt, y, find_clip(axis, &boundaries[..none], after, y))
 }
 
 // The clip position below row y.
-pub fn show_below(line: u32, y: u32)
+pub fn show_below(rt: &impl Print, line: u32, y: u32) -> io::Result<()>
     requires { (line ≤ 4) × (y ≤ 31) }
 {
-    print(b"  below ");
-    show_beside(true, line, y);
+    print(rt, b"  below ")?;
+    show_beside(rt, true, line, y)
 }
 
 // The clip position above row y.
-pub fn show_above(line: u32, y: u32)
+pub fn show_above(rt: &impl Print, line: u32, y: u32) -> io::Result<()>
     requires { (line ≤ 4) × (y ≤ 31) }
 {
-    print(b"  above ");
-    show_beside(false, line, y);
+    print(rt, b"  above ")?;
+    show_beside(rt, false, line, y)
 }
 
 // Each sample is its own index, so that a copy tells where its samples come from.
 fn number_samples(plane: &mut [u16]) {
-    let mut k = 0;
-    while k < plane.len() {
-        plane[k] = (k % 65536) as u16;
-        k += 1;
+    for (k, sample) in plane.iter_mut().enumerate() {
+        *sample = (k % 65536) as u16;
     }
 }
 
 // The position of the sample with this index, 40 in a row.
-fn show_position(index: u16) {
-    print(b"(");
-    print_number((index % 40) as u32);
-    print(b",");
-    print_number((index / 40) as u32);
-    print(b")");
+fn show_position(rt: &impl Print, index: u16) -> io::Result<()> {
+    print(rt, b"(")?;
+    print_number(rt, (index % 40) as u32)?;
+    print(rt, b",")?;
+    print_number(rt, (index / 40) as u32)?;
+    print(rt, b")")
 }
 
 // Two by two CTBs in 40 by 40 samples, the upper left one of another slice, the slice switch off: what stands for (31,31) at the sample
 // (32,32).
-pub fn show_corner() {
+pub fn show_corner(rt: &impl Print) -> io::Result<()> {
     let picture = Picture {
         width: 40,
         height: 40,
@@ -122,17 +121,17 @@ pub fn show_corner() {
     copy_piece(&plane, 40, columns, rows, sides, &mut copy);
     // the margin is of 3 samples, so that the one up-left of the piece stands at column 2 and row 2
     let pitch = extent(columns) + 6;
-    print(b"  (31,31) -> ");
-    show_position(copy[2 * pitch + 2]);
+    print(rt, b"  (31,31) -> ")?;
+    show_position(rt, copy[2 * pitch + 2])
 }
 
 // Whether the line rule is on for the CTB at row 32 of a picture of this height.
-pub fn show_line_rule(height: u32) {
-    print(b"  height ");
-    print_number(height);
+pub fn show_line_rule(rt: &impl Print, height: u32) -> io::Result<()> {
+    print(rt, b"  height ")?;
+    print_number(rt, height)?;
     if line_rule(height, 32, 32) {
-        print(b" -> on");
+        print(rt, b" -> on")
     } else {
-        print(b" -> off");
+        print(rt, b" -> off")
     }
 }

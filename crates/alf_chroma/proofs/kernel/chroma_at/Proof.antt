@@ -14,8 +14,6 @@ use Rattle.alf_taps.proofs.SpreadTaps.{spread_sum}
 use Rattle.alf_chroma.specs.Samples.{copy_plus, copy_minus, chroma_copy_sample}
 use Rattle.alf_chroma.proofs.kernel.chroma_at.Statement.{statement}
 use Rattle.alf_chroma.proofs.kernel.chroma_at.Tie as tie
-use Rattle.alf_chroma.proofs.kernel.chroma_at.Reads as reads
-use Rattle.alf_chroma.proofs.kernel.chroma_at.Lts as lts
 
 abbrev sum : tie.Start → ℤ
 sum s =

@@ -11,8 +11,6 @@ use Rattle.alf_chroma.specs.Samples.{chroma_copy_sample, chroma_copy_sample_from
 use Rattle.alf_chroma.proofs.Samples.{reads_fewer}
 use Rattle.alf_chroma.proofs.kernel.chroma_row.Statement.{statement}
 use Rattle.alf_chroma.proofs.kernel.chroma_row.Tie as tie
-use Rattle.alf_chroma.proofs.kernel.chroma_row.Reads as reads
-use Rattle.alf_chroma.proofs.kernel.chroma_row.Lts as lts
 
 abbrev invariant-loop : tie.invariant-loop-x
 invariant-loop copy n s taps shift depth output₀ from x₀ output x =

@@ -13,8 +13,6 @@ use Rattle.alf_pieces.proofs.CopyRooms.{copy_fits, rows_fit}
 use Rattle.alf_chroma.proofs.PieceSamples.{columns-wide, sample_same}
 use Rattle.alf_chroma.proofs.piece.filter_piece.Statement.{statement}
 use Rattle.alf_chroma.proofs.piece.filter_piece.Tie as tie
-use Rattle.alf_chroma.proofs.piece.filter_piece.Reads as reads
-use Rattle.alf_chroma.proofs.piece.filter_piece.Lts as lts
 
 cast-copy-piece : tie.Need-overflow_cast-width
 cast-copy-piece c =

@@ -12,8 +12,6 @@ use Rattle.alf_chroma.specs.Pieces.{copy_chroma_at}
 use Rattle.alf_chroma.proofs.PieceRows.{Begun, row-ratio, narrow, last-column, in_plane_lem, row_small, row_ready, row_sample_lem}
 use Rattle.alf_chroma.proofs.piece.filter_rows.Statement.{statement}
 use Rattle.alf_chroma.proofs.piece.filter_rows.Tie as tie
-use Rattle.alf_chroma.proofs.piece.filter_rows.Reads as reads
-use Rattle.alf_chroma.proofs.piece.filter_rows.Lts as lts
 
 abbrev invariant-loop : tie.invariant-loop-y
 invariant-loop picture grid columns rows copy taps output₀ n depth width ratio y₀ output y =

@@ -16,9 +16,6 @@ use Rattle.alf_chroma.specs.Pieces.{Spread}
 use Rattle.alf_chroma.proofs.Spreads.{spread_none, spread_more, numbers_more}
 use Rattle.alf_chroma.proofs.piece.spread.Statement.{statement}
 use Rattle.alf_chroma.proofs.piece.spread.Tie as tie
-use Rattle.alf_chroma.proofs.piece.spread.Reads as reads
-use Rattle.alf_chroma.proofs.piece.spread.Lts as lts
-use Rattle.alf_lists.proofs.fill.Reads as fill-reads
 
 abbrev invariant-loop : tie.invariant-loop-j
 invariant-loop filters n taps₀ j₀ taps j = (j ≤ 6) × (length taps ≡ length taps₀) × Spread filters j n taps × TapNumbers taps

@@ -1,5 +1,5 @@
 -- `alf_class_map::map::class_map` meets its contract: the CTBs before address k are classified. Assumes nothing.
-use mathlib.Core.Path.{◌≡◌, refl, sym, ◌∙◌}
+use mathlib.Core.Path.{◌≡◌, refl, ◌∙◌}
 use mathlib.Core.Bool.{Bool, true}
 use Prim.Native.Nat.{ℕ, zero, ◌-◌, ◌*◌, ◌≤◌}
 use native.Mathlib.Nat.{le_antisymm}

@@ -1,5 +1,5 @@
 -- `alf_cross::piece::piece_row` meets its contract: its luma row lies in the piece. Assumes nothing.
-use Prim.Native.Nat.{◌*◌, ◌/◌, ◌≤◌, ◌<◌}
+use Prim.Native.Nat.{◌*◌, ◌≤◌, ◌<◌}
 use native.Mathlib.Nat.{div-le_self}
 use native.Mathlib.Omega.{arith}
 use borrow.Author.Rules.{rules}

@@ -1,13 +1,7 @@
--- `worked_examples::positions::show_corner` meets its contract: the picture is accepted, the tables have its grid's lengths, and the copy
--- of the last CTB's one piece is of 14 by 14 samples. Assumes nothing.
-use mathlib.Core.Path.{◌≡◌, refl, sym}
-use mathlib.Core.Bool.{true, false}
-use mathlib.Core.List.{[], ◌∷◌}
-use Prim.Native.Nat.{◌*◌, ◌≤◌, ◌<◌}
-use native.Mathlib.Nat.{mul-le-mul}
-use native.Mathlib.Omega.{arith}
+-- The picture is accepted, the tables have its grid's lengths, and the copy of the last CTB's one piece is of 14 by 14 samples. Assumes
+-- nothing.
+use Rattle.std.proofs.Common.{arith, ◌≡◌, refl, sym, true, false, [], ◌∷◌, ◌*◌, ◌≤◌, ◌<◌}
 use lib.ListN.{replicate}
-use borrow.Author.Rules.{rules}
 use Rattle.alf_spec.specs.declared.Picture.{Picture}
 use Rattle.alf_spec.specs.declared.Grid.{Grid}
 use Rattle.alf_spec.specs.declared.Sides.{Sides}
@@ -23,8 +17,7 @@ use Rattle.alf_pieces.specs.Pieces.{limit_along, PieceIn}
 use Rattle.alf_pieces.specs.Walks.{Along, Walk, Turn}
 use Rattle.alf_pieces.specs.Copies.{pitch}
 use Rattle.alf_pieces.proofs.PieceWalk.{walk_luma, columns_along, rows_along, walk_start}
-use Rattle.worked_examples.proofs.positions.show_corner.Statement.{statement}
-use Rattle.worked_examples.proofs.positions.show_corner.Tie as tie
+use Rattle.worked_examples.proofs.positions.show_corner.Goals as goal
 
 abbrev picture : Picture
 picture = record {
@@ -109,73 +102,20 @@ rows_on g h s same =
     rw same (last-ctb (rows_along (picture-is h) s 1 walk_luma no-boundaries (omega (arith, side g h))) (omega (arith, side g h)) refl
     (side g h))
 
-columns-last : (c : tie.After-column-axis) → LastCtb c.column-axis.result
-columns-last c =
-    let known : tie.After-grid = search rules in
-    let sided : tie.After-sides-of = search rules in
-    columns-on known.grid.result known.grid.ensures sided.sides-of.result c.column-axis.ensures
-
-rows_last : (c : tie.After-row-axis) → LastCtb c.row-axis.result
-rows_last c =
-    let known : tie.After-grid = search rules in
-    let sided : tie.After-sides-of = search rules in
-    rows_on known.grid.result known.grid.ensures sided.sides-of.result c.row-axis.ensures
-
-last-columns : (c : tie.After-piece-at) → Last c.piece-at.result
-last-columns c = last (columns-last c.before.before) c.piece-at.ensures
-
-last-rows : (c : tie.After-piece-at2) → Last c.piece-at2.result
-last-rows c = last (rows_last c.before.before) c.piece-at2.ensures
-
 -- 8 samples, and the margins
 pitch-small : {p : Piece} → Last p → pitch p ≤ 14
 pitch-small l = omega (arith, l.is.high, l.is.inside, l.begins)
 
--- the piece has 8 columns
-narrow : (c : tie.After-extent) → c.extent.result ≤ 8
-narrow c =
-    let copied = c.before.before.before in
-    let drawn = copied.before.before.before in
-    let stacked = drawn.before.before in
-    omega (arith, c.extent.ensures, pitch-small (last-columns stacked.before.before.before))
+pub grid-grid-requires : goal.grid-grid-requires
+grid-grid-requires g c = (sizes, log2)
 
-pub show_corner_spec : {M : Type 1} → statement M
-show_corner_spec =
-    tie.close
-    (tie.spec (λ c κs. (sizes, log2))
-    (λ c. search rules) (λ c. search rules) (λ c. search rules) (λ c. search rules) (λ c. search rules)
-    (λ c κs.
-    let tables-lent = c.before.before.before in
-    let g = tables-lent.before.before.grid in
-    let wide = columns g.result g.ensures in
-    let high = rows g.result g.ensures in
-    (g.ensures, tables g.result g.ensures, omega arith, omega arith))
-    (λ c κs. search rules) (λ c. search rules) (λ c. search rules)
-    (λ c κs. let l = columns-last c.before in (l.along, l.walk, l.ahead))
-    (λ c κs. search rules) (λ c. search rules) (λ c. search rules)
-    (λ c κs. let l = rows_last c.before in (l.along, l.walk, l.ahead))
-    (λ c. search rules) (λ c κs. search rules) (λ c. search rules) (λ c. search rules)
-    (λ c κs.
-    let drawn = c.before.before.before in
-    let stacked = drawn.before.before in
-    let across = last-columns stacked.before.before.before in
-    let down = last-rows stacked in (
-      across.is,
-      down.is.low,
-      down.is.filled,
-      down.is.high,
-      omega (arith, down.is.inside, c.before.before.plane2.given),
-      mul-le-mul (pitch-small down) (pitch-small across),
-    ))
-    (λ c κs.
-    let copied = c.before.before.before in
-    let drawn = copied.before.before.before in
-    let stacked = drawn.before in
-    omega (arith, (last-columns stacked.before.before.before).is.filled))
-    (λ c. omega (arith, narrow c))
-    (λ c. search rules) (λ c κs. search rules)
-    (λ c. omega (arith, narrow c.before.before))
-    (λ c. omega (arith, narrow c.before.before))
-    (λ c. omega (arith, narrow c.before.before))
-    (λ c. omega (arith, narrow c.before.before))
-    (λ c κs. search rules) (λ c. search rules))
+pub sides_of-sides-requires : goal.sides_of-sides-requires
+sides_of-sides-requires g c =
+    let grid = c.grid-grid in
+    let wide = columns grid.result grid.ensures in
+    let high = rows grid.result grid.ensures in
+    (grid.ensures, tables grid.result grid.ensures, omega arith, omega arith)
+
+pub piece_at-columns-requires : goal.piece_at-columns-requires
+piece_at-columns-requires g c =
+    let l = columns-on c.grid-grid.result c.grid-grid.ensures c.sides_of-sides.result c.column_axis.ensures in (l.along, l.walk, l.ahead)
