@@ -10,7 +10,7 @@ use Rattle.alf_spec.specs.declared.Ctb.{Ctb}
 use Rattle.alf_spec.specs.declared.Grid.{Grid}
 use Rattle.alf_spec.specs.declared.Sides.{Sides}
 use Rattle.alf_spec.specs.Input.{Layout}
-use Rattle.alf_spec.specs.Geometry.{Side, before, after, ctb_size, plane_of, luma_plane, ctb_at, axis_of}
+use Rattle.alf_spec.specs.Geometry.{Side, before, after, plane_of, luma_plane, ctb_at, axis_of}
 use Rattle.alf_spec.specs.Boundary.{column_side, row_side, clip, cause_of}
 use Rattle.alf_spec.specs.Causes.{column_cause, row_cause, causes_at}
 use Rattle.alf_spec.proofs.Accepted.{AcceptedLayout}

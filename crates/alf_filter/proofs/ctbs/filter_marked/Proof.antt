@@ -1,6 +1,6 @@
 -- `alf_filter::ctbs::filter_marked` meets its contract: the marked CTBs before address k are filtered. Assumes nothing.
-use mathlib.Core.Path.{◌≡◌, refl, sym, ap, ◌∙◌}
-use Prim.Native.Nat.{zero, ◌+◌, ◌*◌, ◌-◌, ◌≤◌, ◌<◌}
+use mathlib.Core.Path.{◌≡◌, refl, sym, ◌∙◌}
+use Prim.Native.Nat.{zero, ◌*◌, ◌-◌, ◌≤◌, ◌<◌}
 use native.Mathlib.Nat.{le_antisymm}
 use native.Mathlib.Omega.{arith}
 use borrow.Author.Rules.{rules}
@@ -18,7 +18,7 @@ use Rattle.alf_taps.specs.Spread.{TapNumbers}
 use Rattle.alf_sides.specs.Planned.{SidesPlanned}
 use Rattle.alf_spec.specs.Filters.{operation_of}
 use Rattle.alf_ctb.specs.Filters.{sample_of}
-use Rattle.alf_filter.specs.FilterTables.{FilterTables, given_tables, TablesIn}
+use Rattle.alf_filter.specs.FilterTables.{given_tables, TablesIn}
 use Rattle.alf_filter.specs.FilteredCtbs.{is_marked}
 use Rattle.alf_filter.proofs.AcceptedFilters.{plane_size, same-picture}
 use Rattle.alf_filter.proofs.FilteredCtbs.{all_marked}
