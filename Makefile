@@ -45,7 +45,7 @@ examples:
 	@./target/bin/worked_examples
 	@./target/bin/judge_examples
 	@./target/bin/filter_examples
-	@echo "filters of examples/cross_filters/offenders.bank that the cross-component filter refuses: APS id, component, filter"
+	@echo "filters of examples/cross_filters/offenders.bank that H.266 can't send: APS id, component, filter"
 	@./target/bin/cross_filters < examples/cross_filters/offenders.bank
 
 check:

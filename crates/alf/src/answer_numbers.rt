@@ -4,7 +4,7 @@ ghost use Rattle.alf_spec.specs.Answers.{fault_number, number as number_of, isol
 
 use alf_spec::{Answer, ClipCauses, Fault, Isolation};
 
-// The number of a fault: 1 to 18, and 21.
+// The number of a fault, 1 to 18.
 pub fn fault_number(fault: Fault) -> u8
     ensures { result ≡ fault_number fault }
 {
@@ -27,7 +27,6 @@ pub fn fault_number(fault: Fault) -> u8
         Fault::FieldCutShort => 16,
         Fault::FieldUnlisted => 17,
         Fault::FieldOutOfPlace => 18,
-        Fault::CrossCoefficient => 21,
     }
 }
 

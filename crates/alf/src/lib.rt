@@ -1,5 +1,5 @@
-// The operations on a picture and on bank files, each from its own crate, and the search for filters of a bank that the cross-component
-// filter refuses. None asks anything of its caller: each judges what it is given, then works.
+// The operations on a picture and on bank files, each from its own crate, and the search for cross-component filters of a bank that H.266
+// can't send. None asks anything of its caller: each judges what it is given, then works.
 #![tactic(auto)]
 
 mod answer_numbers;

@@ -1,4 +1,4 @@
--- The cross-component filters of a bank in file order, and those among them that the cross-component filter refuses (02, card 6: "a line
+-- The cross-component filters of a bank in file order, and those among them that H.266 can't send (02, card 6: "a line
 -- for each such filter, in file order"). Assumes nothing.
 use Rattle.std.specs.Prelude.{Bool, cond, List, ℕ, zero, suc, ◌-◌, ◌/◌, ◌%◌, ltb, ℤ}
 use Rattle.alf_spec.specs.Faults.{cross_filter_valid}

@@ -10,17 +10,15 @@ use lib.Pow.{pow_pos}
 use borrow.Author.Tests.{ltb-true, leb-true, eqb-true, lt-ltb}
 use Rattle.alf_spec.specs.declared.Picture.{Picture}
 use Rattle.alf_spec.specs.Lists.{within, implies}
-use Rattle.alf_spec.specs.Input.{Layout, Operation, cross_component, given, Input}
+use Rattle.alf_spec.specs.Input.{Layout, Operation, given, Input}
 use Rattle.alf_spec.specs.Geometry.{ctb_size, luma_plane, chroma_plane, block_plane, plane_length, ctb_columns, ctb_rows, total_ctbs}
-use Rattle.alf_spec.specs.Parameters.{bank_number, cross_coeff}
 use Rattle.alf_spec.specs.Process.{output_plane}
 use Rattle.alf_spec.specs.Faults.{size_valid, picture_size_valid, ctb_size_valid, bit_depth_valid, chroma_format_valid, component_valid}
 use Rattle.alf_spec.specs.Faults.{layout_lengths_valid, filter_lengths_valid, fixed_lengths_valid, lengths_valid, region_length_valid}
 use Rattle.alf_spec.specs.Faults.{virtual_list_valid, virtual_boundaries_valid, tiles_valid, slices_valid, subpictures_valid, region_valid}
 use Rattle.alf_spec.specs.Faults.{parameters_valid, bank_valid, fixed_valid, samples_valid, position_valid, unless, layout_fault}
-use Rattle.alf_spec.specs.Faults.{addresses_valid, cross_coeff_valid, cross_filter_valid, cross_filters_valid, tables_fault, fault}
-use Rattle.alf_spec.specs.Faults.{isolation_fault, causes_fault}
-use Rattle.alf_spec.proofs.Tests.{both, implied, all_at, every_entry}
+use Rattle.alf_spec.specs.Faults.{tables_fault, fault, isolation_fault, causes_fault}
+use Rattle.alf_spec.proofs.Tests.{both, implied, every_entry}
 
 -- of a chain of tests that gives no number, the first passes, and what follows gives none
 pub passed : (test : Bool) (n rest : ℕ) → unless test (suc n) rest ≡ 0 → (test ≡ true) × (rest ≡ 0)
@@ -190,15 +188,3 @@ module _ (op : Operation) (i : Input) (ok : fault op i ≡ 0) where
 
   pub chroma-samples : (given op).chroma ≡ true → (k : ℕ) → get_or i.chroma k 0 < 2 ^ i.layout.picture.bit_depth
   chroma-samples e = sample_below i.layout.picture i.chroma (implied (given op).chroma chroma_samples samples.1 e)
-
--- a cross-component input that is accepted has no coefficient but those that H.266 can send (cause 21), in whichever filter of the bank
-pub cross_coeffs_lem : (component : ℕ) (i : Input) → fault (cross_component component) i ≡ 0
-    → (aps c filter j : ℕ) → aps < 8 → c < 2 → filter < 4 → j < 7 → cross_coeff_valid (cross_coeff i aps c filter j) ≡ true
-unfolding tables_fault cross_filters_valid cross_filter_valid bank_number
-cross_coeffs_lem component i ok aps c filter j ha hc hf hj =
-    let after_parameters = (passed (parameters_valid i) 9 _ (accepted (cross_component component) i ok).3).1 in
-    let after_bank = (passed (bank_valid i && true) 10 _ after_parameters).1 in
-    let after_samples = (passed _ 11 _ after_bank).1 in
-    let after_list = (passed (addresses_valid i) 12 _ after_samples).1 in
-    let all = (passed (cross_filters_valid i.bank) 20 _ after_list).0 in
-    all_at 7 _ (all_at 4 (cross_filter_valid i.bank aps c) (all_at 2 _ (all_at 8 _ all aps ha) c hc) filter hf) j hj

@@ -4,7 +4,7 @@ use Prim.Native.Nat.{ℕ, suc, pred}
 use Rattle.alf_spec.specs.declared.Fault.{Fault}
 use Rattle.alf_spec.specs.declared.Fault.TheVariants.{PictureSize, CtbSize, BitDepth, ChromaFormat, Length, VirtualBoundary, Tile}
 use Rattle.alf_spec.specs.declared.Fault.TheVariants.{Slice, Subpicture, Parameter, Filter, Sample, Address, Region, Position}
-use Rattle.alf_spec.specs.declared.Fault.TheVariants.{FieldCutShort, FieldUnlisted, FieldOutOfPlace, CrossCoefficient}
+use Rattle.alf_spec.specs.declared.Fault.TheVariants.{FieldCutShort, FieldUnlisted, FieldOutOfPlace}
 use Rattle.alf_spec.specs.declared.Answer.{Answer}
 use Rattle.alf_spec.specs.declared.Answer.TheVariants.{Accepted, Rejected}
 use Rattle.alf_spec.specs.Answers.{fault_number, number, kept}
@@ -29,7 +29,6 @@ numbered Position = refl
 numbered FieldCutShort = refl
 numbered FieldUnlisted = refl
 numbered FieldOutOfPlace = refl
-numbered CrossCoefficient = refl
 
 -- ---- what stands in an output of any type
 

@@ -162,18 +162,6 @@ pub table-numbers :
 unfolding computed_fault
 table-numbers = (refl, refl, refl, refl, refl, refl, refl, refl, refl, refl, refl, refl, refl)
 
--- 21
-pub cross_numbers :
-    (fault (cross_component 1) (cross_input (plain good) (zeros 22) (set flat 723 (pos 3)) (zeros 32) [] (zeros 1600) (zeros 400) 400) ≡ 21)
-    -- luma and chroma do not judge it; 13 comes before it
-    × (map (λ op. tables_fault op (on_tables (zeros 22) (zeros 32) (of_coeff 0 (pos 3)) [] [])) (luma ∷ chroma 0 ∷ cross_component 0 ∷ [])
-    ≡ 0 ∷ 0 ∷ 21 ∷ [])
-    × (tables_fault (cross_component 0) (on_tables (zeros 22) (zeros 32) (of_coeff 0 (pos 3)) [] (4 ∷ [])) ≡ 13)
-    -- a bank with no cross-component coefficient but 0
-    × (tables_fault (cross_component 0) (on_tables (zeros 22) (zeros 32) [] [] []) ≡ 0)
-unfolding computed_fault
-cross_numbers = (refl, refl, refl, refl)
-
 -- ---- what the test of each number passes, and what not
 
 -- 1 to 5

@@ -5,9 +5,9 @@ use mathlib.Core.Path.{◌≡◌, refl}
 use mathlib.Core.Bool.{Bool, true, false, ◌&&◌, ◌||◌, cond}
 use mathlib.Core.List.{List, [], ◌∷◌, ◌++◌, map}
 use Prim.Native.Nat.{ℕ, zero, suc, ◌+◌, ◌*◌, ◌/◌, ◌%◌}
-use lib.IntN.{ℤ, pos, negsuc, ◌-ℤ◌}
+use lib.IntN.{pos, ◌-ℤ◌}
 use lib.Dec.{leb, ltb}
-use lib.ListN.{replicate, get_or}
+use lib.ListN.{replicate}
 use Rattle.alf_spec.specs.Input.{Input, luma_input, classes}
 use Rattle.alf_spec.specs.Geometry.{luma_plane}
 use Rattle.alf_spec.specs.Luma.{luma_sample}
@@ -31,16 +31,6 @@ texture width n = map (λ k. 300 + (k % width * 53 + k / width * 11 + k % width 
 abbrev clip_place : ℕ → Bool
 clip_place n = (ltb n 600 && leb 12 (n % 24)) || (leb 600 n && (ltb n 696 && leb 6 (n % 12)))
 
--- what H.266 can send as a cross-component coefficient
-abbrev sent : List ℤ
-sent = map pos (64 ∷ 32 ∷ 16 ∷ 8 ∷ 4 ∷ 2 ∷ 1 ∷ 0 ∷ []) ++ map negsuc (63 ∷ 31 ∷ 15 ∷ 7 ∷ 3 ∷ 1 ∷ 0 ∷ [])
-
--- number k of the bank
-abbrev bank_number : ℕ → ℤ
-bank_number k =
-    cond (clip_place (k % 752)) (pos (5 * k % 401))
-    (cond (leb 696 (k % 752)) (get_or sent (k * 11 % 15) (pos 0)) (pos (k * 7 % 41) -ℤ pos 20))
-
 -- in a chroma format, with so many columns and rows of chroma
 abbrev ctb32 : ℕ → ℕ → ℕ → Input
 ctb32 format columns rows = record {
@@ -48,7 +38,7 @@ ctb32 format columns rows = record {
   luma = texture 32 1024;
   chroma = texture columns (columns * rows);
   slice_params = 2 ∷ 6 ∷ 1 ∷ 0 ∷ 0 ∷ 0 ∷ 0 ∷ 0 ∷ 4 ∷ 2 ∷ 7 ∷ [];
-  bank = map bank_number (count_from 0 6016);
+  bank = map (λ k. cond (clip_place (k % 752)) (pos (5 * k % 401)) (pos (k * 7 % 41) -ℤ pos 20)) (count_from 0 6016);
   ctb_params = 1 ∷ 1 ∷ 1 ∷ 17 ∷ 3 ∷ 5 ∷ 2 ∷ 4 ∷ [];
   ctb_list = 0 ∷ [];
   fixed_filters = replicate 768 (pos 0);
@@ -88,11 +78,11 @@ pub numbers :
     × (map (luma_sample ctb420 9) (count_from 23 9) ≡ 394 ∷ 369 ∷ 346 ∷ 357 ∷ 308 ∷ 380 ∷ 380 ∷ 327 ∷ 303 ∷ [])
     -- chroma and cross-component at column 3, rows 10 to 15, or 24 to 31 where chroma has full height
     × (map (chroma_sample ctb420 0 3) (count_from 10 6) ≡ 288 ∷ 334 ∷ 397 ∷ 303 ∷ 335 ∷ 376 ∷ [])
-    × (map (cross_sample ctb420 1 3) (count_from 10 6) ≡ 318 ∷ 378 ∷ 391 ∷ 305 ∷ 328 ∷ 376 ∷ [])
+    × (map (cross_sample ctb420 1 3) (count_from 10 6) ≡ 306 ∷ 327 ∷ 368 ∷ 300 ∷ 344 ∷ 379 ∷ [])
     × (map (chroma_sample ctb422 0 3) (count_from 24 8) ≡ 391 ∷ 293 ∷ 325 ∷ 397 ∷ 299 ∷ 342 ∷ 374 ∷ 299 ∷ [])
-    × (map (cross_sample ctb422 1 3) (count_from 24 8) ≡ 395 ∷ 288 ∷ 341 ∷ 387 ∷ 301 ∷ 326 ∷ 381 ∷ 320 ∷ [])
+    × (map (cross_sample ctb422 1 3) (count_from 24 8) ≡ 372 ∷ 309 ∷ 336 ∷ 368 ∷ 317 ∷ 342 ∷ 384 ∷ 301 ∷ [])
     × (map (chroma_sample ctb444 0 3) (count_from 24 8) ≡ 391 ∷ 293 ∷ 325 ∷ 397 ∷ 299 ∷ 342 ∷ 374 ∷ 299 ∷ [])
-    × (map (cross_sample ctb444 1 3) (count_from 24 8) ≡ 379 ∷ 319 ∷ 361 ∷ 362 ∷ 326 ∷ 345 ∷ 377 ∷ 318 ∷ [])
+    × (map (cross_sample ctb444 1 3) (count_from 24 8) ≡ 367 ∷ 325 ∷ 332 ∷ 379 ∷ 306 ∷ 343 ∷ 371 ∷ 320 ∷ [])
 unfolding computed_result
 numbers = (refl, refl, refl, refl, refl, refl, refl, refl, refl)
 

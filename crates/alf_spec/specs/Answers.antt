@@ -5,7 +5,7 @@ use Rattle.std.proofs.Math.Option.{Option, some, none}
 use Rattle.alf_spec.specs.declared.Fault.{Fault}
 use Rattle.alf_spec.specs.declared.Fault.TheVariants.{PictureSize, CtbSize, BitDepth, ChromaFormat, Length, VirtualBoundary, Tile}
 use Rattle.alf_spec.specs.declared.Fault.TheVariants.{Slice, Subpicture, Parameter, Filter, Sample, Address, Region, Position}
-use Rattle.alf_spec.specs.declared.Fault.TheVariants.{FieldCutShort, FieldUnlisted, FieldOutOfPlace, CrossCoefficient}
+use Rattle.alf_spec.specs.declared.Fault.TheVariants.{FieldCutShort, FieldUnlisted, FieldOutOfPlace}
 use Rattle.alf_spec.specs.declared.Answer.{Answer}
 use Rattle.alf_spec.specs.declared.Answer.TheVariants.{Accepted, Rejected}
 use Rattle.alf_spec.specs.declared.Isolation.{Isolation}
@@ -36,7 +36,6 @@ fault_number Position = 15
 fault_number FieldCutShort = 16
 fault_number FieldUnlisted = 17
 fault_number FieldOutOfPlace = 18
-fault_number CrossCoefficient = 21
 
 -- accepted work returns 0
 abbrev pub number : Answer → ℕ

@@ -227,7 +227,7 @@ region_valid region = every (λ n. leb n 1) region
 unfoldable pub position_valid : Picture → ℕ → ℕ → Bool
 position_valid p x y = ltb x p.width && ltb y p.height
 
--- ---- 21: cross-component coefficients (02, card 6)
+-- ---- 21: cross-component coefficients (02, card 6). No operation judges it yet
 
 -- "H.266 can only send 0 or plus or minus 1, 2, 4, 8, 16, 32 or 64"
 abbrev pub cross_magnitudes : List ℕ
@@ -272,15 +272,14 @@ layout_fault l component lengths rest =
     (unless (slices_valid l) 8
     (unless (subpictures_valid l) 9 rest))))))))
 
--- 10 to 13, and 21: what this operation is given
+-- 10 to 13: what this operation is given
 unfoldable pub tables_fault : Operation → Input → ℕ
 tables_fault op i =
     unless (implies (given op).filters (parameters_valid i)) 10
     (unless (implies (given op).filters (bank_valid i) && implies (given op).fixed (fixed_valid i)) 11
     (unless (implies (given op).luma (samples_valid i.layout.picture i.luma)
     && implies (given op).chroma (samples_valid i.layout.picture i.chroma)) 12
-    (unless (implies (given op).filters (addresses_valid i)) 13
-    (unless (implies (judges_cross op) (cross_filters_valid i.bank)) 21 0))))
+    (unless (implies (given op).filters (addresses_valid i)) 13 0)))
 
 -- 0 where the operation accepts the input
 unfoldable pub fault : Operation → Input → ℕ

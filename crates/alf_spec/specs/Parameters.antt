@@ -81,7 +81,7 @@ module _ (i : Input) (aps : ℕ) where
 
   -- CcAlfApsCoeffCb, CcAlfApsCoeffCr
   abbrev pub cross_coeff : ℕ → ℕ → ℕ → ℤ
-  cross_coeff component filter j = bank_number (cross_number component filter j)
+  cross_coeff component filter j = bank_number (696 + 28 * component + 7 * filter + j)
 
 -- AlfFixFiltCoeff[ AlfClassToFiltMap[ set ][ class ] ][ j ]
 unfoldable pub fixed_coeff : Input → ℕ → ℕ → ℕ → ℤ

@@ -49,8 +49,6 @@ pub enum Fault {
     FieldUnlisted,
     // a field that may not stand where it does: tag 1 missing, a filter out of order, repeated or all zero
     FieldOutOfPlace,
-    // a cross-component coefficient that H.266 can't send
-    CrossCoefficient,
 }
 
 // Which filter; a component is 0 (Cb) or 1 (Cr).

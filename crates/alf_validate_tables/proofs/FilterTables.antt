@@ -1,4 +1,4 @@
--- What causes 10 to 13 and 21 look at. Assumes nothing.
+-- What causes 10 to 13 look at. Assumes nothing.
 use mathlib.Core.Path.{◌≡◌, refl, sym, ◌∙◌}
 use mathlib.Core.Bool.{Bool}
 use mathlib.Core.List.{[]}

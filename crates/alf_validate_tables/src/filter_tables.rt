@@ -1,15 +1,14 @@
-// Causes 10 to 13 of the three filters, and 21 of the cross-component filter.
+// Causes 10 to 13 of the three filters.
 ghost use Rattle.std.specs.Prelude.{◌≡◌};
 ghost use Rattle.alf_spec.specs.Answers.{number};
 ghost use Rattle.alf_validate_tables.specs.Tables.{tables_input, filter_tables_fault, TablesFit};
 
-use crate::cross_coeffs::cross_coeffs_valid;
 use crate::filters::filters_valid;
 use crate::parameters::parameters_valid;
 use crate::samples::{addresses_valid, planes_valid};
 use alf_spec::{Answer, Fault, Filter, Picture};
 
-// The lowest of causes 10 to 13 and 21. What the filter is not given, or does not judge, is left alone.
+// The lowest of causes 10 to 13. What the filter is not given is not judged.
 pub fn filter_tables_fault(
     filter: Filter,
     picture: Picture,
@@ -40,9 +39,6 @@ pub fn filter_tables_fault(
     }
     if !addresses_valid(slice_map.len(), ctb_list) {
         return Answer::Rejected(Fault::Address);
-    }
-    if !cross_coeffs_valid(filter, bank) {
-        return Answer::Rejected(Fault::CrossCoefficient);
     }
     Answer::Accepted
 }

@@ -1,6 +1,6 @@
-// Names the filters of a bank file for which the cross-component filter refuses its bank (02, card 6): a line for each filter with a
-// coefficient that H.266 can't send, in file order, with its APS id, its component and its number among the component's filters. The file
-// comes on standard input; one that is no bank file is answered with `refused` and the number.
+// Names the cross-component filters of a bank file that H.266 can't send (02, card 6): a line for each filter with a coefficient of
+// another magnitude, in file order, with its APS id, its component and its number among the component's filters. The file comes on standard
+// input; one that is no bank file is answered with `refused` and the number.
 #![tactic(auto)]
 
 ghost use Rattle.std.specs.Prelude.{◌≡◌, ◌≤◌, ◌<◌, ◌↔◌, length, take, IfOk, IsTrue};

@@ -2,20 +2,12 @@
 
 const COEFFICIENTS: [i16; 7] = [9, -4, 6, 0, 12, -7, 3];
 
-// What H.266 can send as a cross-component coefficient is 0 and the powers of two up to 64, of either sign.
-const CROSS_COEFFICIENTS: [i16; 9] = [16, -4, 8, 0, -32, 2, 64, -1, -8];
-
 // Some hold back even the grain, and 256 none of 8 bits.
 const CLIPS: [i16; 5] = [256, 3, 10, 40, 0];
 
 // A small coefficient, by its index in a table.
 fn coefficient(k: usize) -> i16 {
     COEFFICIENTS[k % 7]
-}
-
-// A cross-component coefficient, by its index in the bank.
-fn cross_coefficient(k: usize) -> i16 {
-    CROSS_COEFFICIENTS[k % 9]
 }
 
 // A clip, by its index in the bank.
@@ -36,10 +28,8 @@ fn is_clip(n: usize) -> bool {
 fn bank_entry(k: usize) -> i16 {
     if is_clip(k % 752) {
         clip(k)
-    } else if k % 752 < 696 {
-        coefficient(k)
     } else {
-        cross_coefficient(k)
+        coefficient(k)
     }
 }
 

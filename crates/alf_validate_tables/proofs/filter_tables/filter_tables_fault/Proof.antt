@@ -6,7 +6,7 @@ use borrow.Author.Rules.{rules}
 use Rattle.alf_spec.specs.Lists.{implies}
 use Rattle.alf_spec.specs.Input.{given, Input}
 use Rattle.alf_spec.specs.Filters.{operation_of}
-use Rattle.alf_spec.specs.Faults.{parameters_valid, bank_valid, fixed_valid, samples_valid, addresses_valid, unless}
+use Rattle.alf_spec.specs.Faults.{parameters_valid, bank_valid, fixed_valid, samples_valid, unless}
 use Rattle.alf_spec.proofs.Faults.{stops, goes}
 use Rattle.alf_validate_tables.specs.Tables.{tables_input, filter_tables_fault}
 use Rattle.alf_validate_tables.proofs.FilterTables.{parameters_of, addresses_of}
@@ -37,17 +37,6 @@ three-pass three e =
     (goes _ _ two.before.filters_valid.ensures two.if-not-filters_valid.false-raw
     (goes _ _ three.before.planes_valid.ensures three.if-not-planes_valid.false-raw e))
 
--- where the fourth has too
-four-pass : (four : tie.Else-not-addresses_valid) {m rest : ℕ} → m ≡ rest → let i = input (start four.before.before) in
-    let op = operation_of (start four.before.before).args.filter in
-    m ≡ unless (parameters_valid i) 10 (unless (bank_valid i && implies (given op).fixed (fixed_valid i)) 11
-    (unless (implies (given op).luma (samples_valid i.layout.picture i.luma)
-    && implies (given op).chroma (samples_valid i.layout.picture i.chroma)) 12 (unless (addresses_valid i) 13 rest)))
-unfolding bank_valid fixed_valid
-four-pass four e =
-    let three = four.before.before in
-    three-pass three (goes _ _ (addresses_of _ (start three).requires.full four.before.addresses_valid.ensures) four.if-not-addresses_valid.false-raw e)
-
 pub filter_tables_fault_spec : {M : Type 1} → statement M
 unfolding filter_tables_fault bank_valid fixed_valid
 filter_tables_fault_spec =
@@ -70,6 +59,6 @@ filter_tables_fault_spec =
     (λ c.
     let three = c.before.before in
     three-pass three (stops _ _ (addresses_of _ (start three).requires.full c.before.addresses_valid.ensures) c.if-not-addresses_valid.true-raw))
-    (λ c κs. search rules)
-    (λ c. four-pass c.before.before (stops _ _ c.before.cross_coeffs_valid.ensures c.if-not-cross_coeffs_valid.true-raw))
-    (λ c. four-pass c.before.before (goes _ _ c.before.cross_coeffs_valid.ensures c.if-not-cross_coeffs_valid.false-raw refl)))
+    (λ c.
+    let three = c.before.before in
+    three-pass three (goes _ _ (addresses_of _ (start three).requires.full c.before.addresses_valid.ensures) c.if-not-addresses_valid.false-raw refl)))
