@@ -10,11 +10,12 @@ mkdir -p target/staticlib target/bin
 log=$(mktemp)
 trap 'rm -f "$log"' EXIT
 
-# Runs rt in a crate's folder. It is quiet where it succeeds, but for the crates that it proves.
-quietly() {
+# Runs rt in a crate's folder, and names each crate that it proves on the way. All that it says is shown where it fails.
+run() {
     local crate=$1
     shift
-    (cd "$top/crates/$crate" && "$@") > "$log" 2>&1 < /dev/null || { cat "$log" >&2; return 1; }
+    (cd "$top/crates/$crate" && "$@") 2>&1 < /dev/null | tee "$log" | sed -un 's/^rt: chose --jobs [0-9]* for \([a-z_0-9]*\)$/  proving \1/p'
+    [[ ${PIPESTATUS[0]} -eq 0 ]] || { cat "$log" >&2; return 1; }
 }
 
 for crate in "$@"; do
@@ -22,11 +23,11 @@ for crate in "$@"; do
     began=$SECONDS
     if [[ -f crates/$crate/src/main.rt ]]; then
         # a run is what builds a program; here its input is empty, and what it prints isn't looked at
-        quietly "$crate" rt run || exit 1
+        run "$crate" rt run || exit 1
         cp "crates/$crate/out/$crate" "target/bin/$crate" || exit 1
         made=target/bin/$crate
     else
-        quietly "$crate" rt lib || exit 1
+        run "$crate" rt lib || exit 1
         cp "crates/$crate/out/lib$crate.a" "target/staticlib/lib$crate.a" || exit 1
         made=target/staticlib/lib$crate.a
     fi
