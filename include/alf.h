@@ -37,9 +37,7 @@
  *   slice_params        11 numbers for each slice: how many luma APSs (0 to 7), seven luma APS ids, the chroma APS id, the cross-component
  *                       APS ids of Cb and Cr; an id is 0 to 7, also where it is not used
  *   bank                eight APSs of 752 numbers: 25 luma filters of 12 coefficients and 12 clips; 8 chroma filters of 6 and 6; 4
- *                       cross-component filters of 7 coefficients for Cb, then 4 for Cr. A coefficient is -128 to 127, a clip 0 to 2^B.
- *                       H.266 sends as a cross-component coefficient only 0 and plus or minus 1, 2, 4, 8, 16, 32 or 64;
- *                       alf_cross_component takes no bank that holds another, used or not. alf_luma and alf_chroma do not judge this
+ *                       cross-component filters of 7 coefficients for Cb, then 4 for Cr. A coefficient is -128 to 127, a clip 0 to 2^B
  *   ctb_params          8 numbers for each CTB: luma, Cb and Cr flags (0 or 1); the luma set (0 to 15 fixed, then 16 up to 15 + the count
  *                       of its slice); Cb's and Cr's alternative (0 to 7); Cb's and Cr's cross-component index (0 off, 1 to 4).
  *                       Where chroma_format is 0, all but the luma flag and the luma set are 0
@@ -77,8 +75,7 @@ enum alf_fault {
     ALF_POSITION = 15,
     ALF_FIELD_CUT_SHORT = 16,
     ALF_FIELD_UNLISTED = 17,
-    ALF_FIELD_OUT_OF_PLACE = 18,
-    ALF_CROSS_COEFFICIENT = 21
+    ALF_FIELD_OUT_OF_PLACE = 18
 };
 
 /* What a returned number means, for a message. */
@@ -104,12 +101,8 @@ static inline const char *alf_meaning(uint8_t number)
         "a field of the bank file is cut short",
         "a field of the bank file has a tag, a length or a leading number that is not listed",
         "a field of the bank file is out of place: the bit depth is not first, or a filter is out of order, repeated or all zero",
-        NULL, /* no function returns 19 or 20 */
-        NULL,
-        "a cross-component coefficient is not 0 or plus or minus a power of two up to 64",
     };
-    const char *meaning = number < sizeof meanings / sizeof meanings[0] ? meanings[number] : NULL;
-    return meaning != NULL ? meaning : "not a number of this library";
+    return number < sizeof meanings / sizeof meanings[0] ? meanings[number] : "not a number of this library";
 }
 
 /* Why the filters read nothing across a clip position, as alf_clip_causes writes it. */
@@ -194,8 +187,7 @@ uint8_t alf_chroma(
     uint16_t *output, size_t output_length);
 
 /* The cross-component filter of a component: output is chroma, which is filtered already, with each listed CTB whose index of that
- * component is not 0 corrected from luma, which is not filtered. Judges as alf_chroma does, and both planes: 1 to 13. Last, it alone
- * judges the cross-component coefficients of the whole bank, of all APSs and both components, also where no CTB uses them: 21. */
+ * component is not 0 corrected from luma, which is not filtered. Judges as alf_chroma does, and both planes: 1 to 13. */
 uint8_t alf_cross_component(
     uint32_t width, uint32_t height, uint8_t ctb_log2, uint8_t bit_depth, uint8_t chroma_format, uint32_t slice_count,
     bool across_tiles, bool across_slices,
@@ -262,8 +254,7 @@ enum {
 /* Writes the file of a bank at a bit depth. bank has ALF_BANK_NUMBERS numbers, in the order that is said above; file has room for
  * ALF_BANK_FILE_BYTES or more, also where this bank's file is shorter. The file goes to the front of it, *length becomes how many bytes
  * that is, and every byte behind them stays as it was. Where the number returned is not 0, nothing of file and *length is written.
- * Judges the bit depth, the two lengths, and the coefficients and clips: 3, 5 and 11. Neither this nor alf_bank_read judges 21: a bank
- * with such a cross-component coefficient is written and read back as any other. */
+ * Judges the bit depth, the two lengths, and the coefficients and clips: 3, 5 and 11. */
 uint8_t alf_bank_write(
     uint8_t bit_depth,
     const int16_t *bank, size_t bank_length,

@@ -18,8 +18,8 @@ static const char *const names[OPERATIONS] = {
     "classes", "luma", "chroma", "cross-component", "isolated", "clip causes", "bank write", "bank read",
 };
 
-/* The highest number that a call can be answered with, and one. */
-#define ANSWERS (ALF_CROSS_COEFFICIENT + 1)
+/* How many answers there are: accepted, and the faults. */
+#define ANSWERS (ALF_FIELD_OUT_OF_PLACE + 1)
 
 /* How many chroma formats there are: luma alone, 4:2:0, 4:2:2 and 4:4:4. */
 #define FORMATS 4
@@ -42,23 +42,15 @@ struct scalars {
     uint32_t x, y;
 };
 
-/* Whether a number is 0 or one of enum alf_fault: between its last two numbers there is none. */
-static bool is_answer(unsigned number)
-{
-    return number <= ALF_FIELD_OUT_OF_PLACE || number == ALF_CROSS_COEFFICIENT;
-}
-
 static void print_answers(void)
 {
     fprintf(stderr, "calls by answer %8d", 0);
     for (int n = 1; n < ANSWERS; n++)
-        if (is_answer(n))
-            fprintf(stderr, "%8d", n);
+        fprintf(stderr, "%8d", n);
     for (int op = 0; op < OPERATIONS; op++) {
         fprintf(stderr, "\n%-15s ", names[op]);
         for (int n = 0; n < ANSWERS; n++)
-            if (is_answer(n))
-                fprintf(stderr, "%8lu", answers[op][n]);
+            fprintf(stderr, "%8lu", answers[op][n]);
     }
     fprintf(stderr, "\n");
 }
@@ -71,23 +63,12 @@ static void fill(int name, size_t length, uint32_t *state, uint32_t n)
         put(&buffers[name], k, random_below(state, n));
 }
 
-/* Number k of a bank that every filter accepts: a clip, 0 to 2^bit_depth; a coefficient of luma or chroma, -128 to 127; or, behind these
- * 696 numbers of an APS, a cross-component coefficient, 0 or plus or minus a power of two up to 64. */
-static uint32_t bank_number(uint32_t *state, size_t k, uint8_t bit_depth)
-{
-    if (is_clip(k))
-        return random_below(state, (1u << bit_depth) + 1);
-    if (k % 752 < 696)
-        return random_below(state, 256) - 128;
-    uint32_t magnitude = (1u << random_below(state, 8)) >> 1;
-    return random_below(state, 2) ? magnitude : 0 - magnitude;
-}
-
+/* Every entry from -128 to 127, or for a clip 0 to 2^bit_depth. */
 static void fill_bank(uint32_t *state, uint8_t bit_depth)
 {
     set_length(&buffers[BANK], ALF_BANK_NUMBERS);
     for (size_t k = 0; k < buffers[BANK].length; k++)
-        put(&buffers[BANK], k, bank_number(state, k, bit_depth));
+        put(&buffers[BANK], k, is_clip(k) ? random_below(state, (1u << bit_depth) + 1) : random_below(state, 256) - 128);
     set_length(&buffers[FIXED_FILTERS], 768);
     for (size_t k = 0; k < 768; k++)
         put(&buffers[FIXED_FILTERS], k, random_below(state, 256) - 128);
@@ -157,20 +138,10 @@ static struct scalars make_picture(struct bytes *from)
     return s;
 }
 
-/* A cross-component coefficient becomes any from -128 to 127. A change of any entry to any number hardly ever does that. */
-static void change_cross_coefficient(struct bytes *from)
-{
-    struct buffer *bank = &buffers[BANK];
-    size_t aps = take(from) % 8, at = 752 * aps + 696 + take(from) % 56;
-    uint32_t coefficient = take(from) - 128;
-    if (at < bank->length)
-        put(bank, at, coefficient);
-}
-
-/* Changes one number, switch or cross-component coefficient, one length or one entry. */
+/* Changes one number or switch, one length or one entry. */
 static void change(struct scalars *s, struct bytes *from)
 {
-    enum { NUMBERS = 12 };
+    enum { NUMBERS = 11 };
     uint32_t what = take(from) % (NUMBERS + 2 * PICTURE_BUFFERS);
     switch (what) {
     case 0: s->width = take4(from); return;
@@ -184,7 +155,6 @@ static void change(struct scalars *s, struct bytes *from)
     case 8: s->component = (uint8_t)take(from); return;
     case 9: s->x = take4(from); return;
     case 10: s->y = take4(from); return;
-    case 11: change_cross_coefficient(from); return;
     }
     int name = (int)(what - NUMBERS) / 2;
     struct buffer *b = &buffers[name];
@@ -317,10 +287,8 @@ int LLVMFuzzerTestOneInput(const uint8_t *data, size_t size)
     for (int name = 0; name < BUFFERS; name++)
         remember(&buffers[name]);
     uint8_t number = call(op, &s);
-    if (!is_answer(number))
+    if (number >= ANSWERS)
         fail("a number that no fault has", op, number);
-    if (number == ALF_CROSS_COEFFICIENT && op != CROSS_COMPONENT)
-        fail("a fault of cross-component coefficients", op, number);
     for (int name = 0; name < BUFFERS; name++)
         if ((number != 0 || !is_output(op, name)) && !unchanged(&buffers[name]))
             fail(number ? "something was written on rejection" : "an input was written", op, number);

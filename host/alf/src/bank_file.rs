@@ -1,5 +1,4 @@
-//! Banks as files (docs/bank-files.md). A bank that the cross-component filter rejects for its coefficients is written and read as any
-//! other.
+//! Banks as files (docs/bank-files.md).
 use crate::{ffi, Fault};
 
 /// The numbers of a bank: eight APSs of 752.

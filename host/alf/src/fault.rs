@@ -24,12 +24,11 @@ pub enum Fault {
     FieldCutShort = 16,
     FieldUnlisted = 17,
     FieldOutOfPlace = 18,
-    CrossCoefficient = 21,
 }
 
 impl Fault {
     /// All of them, lowest first.
-    pub const ALL: [Fault; 19] = [
+    pub const ALL: [Fault; 18] = [
         Fault::PictureSize,
         Fault::CtbSize,
         Fault::BitDepth,
@@ -48,10 +47,9 @@ impl Fault {
         Fault::FieldCutShort,
         Fault::FieldUnlisted,
         Fault::FieldOutOfPlace,
-        Fault::CrossCoefficient,
     ];
 
-    /// 1 to 18, or 21. No fault has 19 or 20.
+    /// 1 to 18.
     pub fn number(self) -> u8 {
         self as u8
     }
@@ -85,17 +83,15 @@ impl Fault {
             Fault::FieldOutOfPlace => {
                 "a field of the bank file is out of place: the bit depth is not first, or a filter is out of order, repeated or all zero"
             }
-            Fault::CrossCoefficient => "a cross-component coefficient is not 0 or plus or minus a power of two up to 64",
         }
     }
 
     /// The library answers 0 where it accepts, else the number of a fault; its contract allows no other number.
     pub(crate) fn from_answer(number: u8) -> Result<(), Fault> {
-        if number == 0 {
-            return Ok(());
+        match number {
+            0 => Ok(()),
+            n => Err(Fault::ALL[usize::from(n) - 1]),
         }
-        let fault = Fault::ALL.into_iter().find(|fault| fault.number() == number);
-        Err(fault.unwrap_or_else(|| panic!("the library answered {number}, which no fault has")))
     }
 }
 

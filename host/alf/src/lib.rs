@@ -81,8 +81,7 @@ pub fn chroma(picture: &Picture, component: u8, parameters: &Parameters, chroma:
     Fault::from_answer(ffi::chroma(picture, component, parameters, chroma, output))
 }
 
-/// Writes the filtered plane of a component with each listed CTB whose index is on corrected from the unfiltered luma plane. It alone
-/// rejects a bank with a cross-component coefficient that H.266 cannot send, also where no CTB uses it: [`Fault::CrossCoefficient`].
+/// Writes the filtered plane of a component with each listed CTB whose index is on corrected from the unfiltered luma plane.
 pub fn cross_component(
     picture: &Picture,
     component: u8,

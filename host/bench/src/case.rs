@@ -5,7 +5,7 @@ use crate::padded::Padded;
 use crate::random::Random;
 use raspbegonia::{FixedTables, Parameters, Picture};
 
-/// All that the library and the C are given, and the three ways to spoil it.
+/// All that the library and the C are given, and the two ways to spoil it.
 pub struct Case {
     pub width: usize,
     pub height: usize,
@@ -24,10 +24,8 @@ pub struct Case {
     pub bank: Vec<i16>,
     pub fixed_filters: Vec<i16>,
     pub fixed_map: Vec<u8>,
-    /// A bank whose last number is no cross-component coefficient: what the cross-component filter is rejected for last.
-    bad_bank: Vec<i16>,
     ctb_list: Vec<u32>,
-    /// A list whose last address is out of range: what the luma and chroma filters are rejected for last.
+    /// A list whose last address is out of range: what the filters are rejected for last.
     bad_list: Vec<u32>,
     tile_columns: Vec<u8>,
     tile_rows: Vec<u8>,
@@ -50,9 +48,11 @@ impl Case {
         let chroma = drawing(chroma_width, chroma_height, bit_depth, &mut random);
         let (columns, rows) = (width.div_ceil(1 << ctb_log2), height.div_ceil(1 << ctb_log2));
         let count = columns * rows;
+        let mut bad_luma = luma.clone();
+        bad_luma[width * height - 1] = 1 << bit_depth;
         let ctb_list: Vec<u32> = (0..count as u32).collect();
-        let ctb_params = (0..count).flat_map(|address| ctb_params(address, ctbs, &mut random)).collect();
-        let bank: Vec<i16> = (0..8).flat_map(|_| aps(bit_depth, &mut random)).collect();
+        let mut bad_list = ctb_list.clone();
+        bad_list[count - 1] = count as u32;
         Case {
             width,
             height,
@@ -61,19 +61,18 @@ impl Case {
             format,
             padded_luma: Padded::new(&luma, width, height),
             padded_chroma: Padded::new(&chroma, chroma_width, chroma_height),
-            bad_luma: with_last(&luma, 1 << bit_depth),
             luma,
             chroma,
+            bad_luma,
             // Seven luma APSs, then those of chroma and of cross-component filters.
             slice_params: vec![7, 6, 5, 4, 3, 2, 1, 0, 7, 3, 5],
             slice_map: vec![0; count],
-            ctb_params,
-            bad_bank: with_last(&bank, 3),
-            bank,
+            ctb_params: (0..count).flat_map(|address| ctb_params(address, ctbs, &mut random)).collect(),
+            bank: (0..8).flat_map(|_| aps(bit_depth, &mut random)).collect(),
             fixed_filters: coefficients(64 * 12, &mut random),
             fixed_map: (0..16 * 25).map(|_| random.below(64) as u8).collect(),
-            bad_list: with_last(&ctb_list, count as u32),
             ctb_list,
+            bad_list,
             tile_columns: vec![0; columns],
             tile_rows: vec![0; rows],
         }
@@ -120,16 +119,9 @@ impl Case {
         }
     }
 
-    pub fn with_bad_list(&self) -> Parameters<'_> {
+    pub fn bad_parameters(&self) -> Parameters<'_> {
         Parameters {
             ctb_list: &self.bad_list,
-            ..self.parameters()
-        }
-    }
-
-    pub fn with_bad_bank(&self) -> Parameters<'_> {
-        Parameters {
-            bank: &self.bad_bank,
             ..self.parameters()
         }
     }
@@ -140,11 +132,6 @@ impl Case {
             map: &self.fixed_map,
         }
     }
-}
-
-/// A list with another number at its end.
-fn with_last<T: Copy>(list: &[T], last: T) -> Vec<T> {
-    [&list[..list.len() - 1], &[last]].concat()
 }
 
 /// Sets, alternatives and indices go round by address: sets over the fixed ones and those of the seven APSs.
@@ -165,15 +152,8 @@ fn aps(bit_depth: u8, random: &mut Random) -> Vec<i16> {
             numbers.extend((0..taps).map(|_| random.below((1 << bit_depth) + 1) as i16));
         }
     }
-    numbers.extend((0..2 * 4 * 7).map(|_| cross_coefficient(random)));
+    numbers.extend(coefficients(2 * 4 * 7, random));
     numbers
-}
-
-/// One of those that the standard can send: 0 and, of either sign, powers of two, mostly up to 8 as the others are, one in eight up to 64.
-fn cross_coefficient(random: &mut Random) -> i16 {
-    let most = if random.below(8) == 0 { 7 } else { 4 };
-    let k = random.below(2 * most + 1) as i16 - most as i16;
-    k.signum() * ((1 << k.abs()) >> 1)
 }
 
 /// Mostly small, so that few sums leave the range of a sample; one in eight is anything that is accepted.

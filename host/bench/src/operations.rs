@@ -69,19 +69,14 @@ impl Operation {
     fn last_fault(self) -> Fault {
         match self {
             Operation::Classes => Fault::Sample,
-            Operation::Luma | Operation::Chroma(_) => Fault::Address,
-            Operation::CrossComponent(_) => Fault::CrossCoefficient,
+            _ => Fault::Address,
         }
     }
 
     /// Spoilt input is rejected at the last test, so that all the library does is judge.
     fn library(self, case: &Case, spoilt: bool, output: &mut Output) -> Result<(), Fault> {
         let picture = case.picture();
-        let parameters = match self {
-            _ if !spoilt => case.parameters(),
-            Operation::CrossComponent(_) => case.with_bad_bank(),
-            _ => case.with_bad_list(),
-        };
+        let parameters = if spoilt { case.bad_parameters() } else { case.parameters() };
         match self {
             Operation::Classes => raspbegonia::classes(&picture, if spoilt { &case.bad_luma } else { &case.luma }, &mut output.map),
             Operation::Luma => raspbegonia::luma(&picture, &parameters, &case.fixed(), &case.luma, &mut output.plane),

@@ -31,8 +31,7 @@ pub fn filters() -> Vec<Filter> {
     found
 }
 
-/// An accepted bank in which one filter in `share` is not all zero. Its numbers are small, any or the two ends, or all 0 but one; also
-/// those of cross-component filters, since a bank file may hold what H.266 cannot send.
+/// An accepted bank in which one filter in `share` is not all zero. Its numbers are small, any or the two ends, or all 0 but one.
 pub fn bank(random: &mut Random, bit_depth: u8, share: u64) -> Vec<i16> {
     let mut bank = vec![0; BANK_NUMBERS];
     for filter in filters() {

@@ -54,12 +54,12 @@ pub fn printed(file: &[u8]) -> String {
     text(program(opened(file).into()).output().expect("the program runs"))
 }
 
-/// What it prints, and what it says on standard error, where its input is a folder, which can be opened and not read.
-pub fn of_a_folder() -> (String, String) {
+/// How it ends, what it prints, and what it says on standard error, where its input is a folder, which can be opened and not read.
+pub fn of_a_folder() -> (Option<i32>, String, String) {
     let folder = File::open(env!("CARGO_MANIFEST_DIR")).expect("the folder of these tests");
     let output = program(folder.into()).output().expect("the program runs");
     let lossy = |bytes: &[u8]| String::from_utf8_lossy(bytes).into_owned();
-    (lossy(&output.stdout), lossy(&output.stderr))
+    (output.status.code(), lossy(&output.stdout), lossy(&output.stderr))
 }
 
 /// What it prints of a file that comes through a pipe, piece by piece.

@@ -28,10 +28,6 @@ fn luma_filter(operation: Operation) -> bool {
     operation == Operation::Luma
 }
 
-fn cross_filter(operation: Operation) -> bool {
-    operation == Operation::CrossComponent
-}
-
 fn luma_plane(operation: Operation) -> bool {
     operation.reads_luma()
 }
@@ -92,21 +88,6 @@ fn bank_place(random: &mut Random, clip: bool) -> usize {
         1 => 600 + 12 * random.index(8) + 6 * half + random.index(6),
         _ => 696 + random.index(56),
     }
-}
-
-/// Puts a number at a random cross-component coefficient of the bank, whether a CTB uses it or not.
-fn put_cross_coefficient(input: &mut Input, random: &mut Random, number: i16) -> bool {
-    let at = 752 * random.index(8) + 696 + random.index(56);
-    set(&mut input.bank[at], number)
-}
-
-/// A magnitude from 3 to 127 with two bits or more, of either sign: two bits that differ, half of the time with others.
-fn several_bits(random: &mut Random) -> i16 {
-    let low = random.between(0, 5);
-    let high = random.between(low + 1, 6);
-    let others = if random.flip() { random.between(0, 127) } else { 0 };
-    let magnitude = (1 << low | 1 << high | others) as i16;
-    random.pick(&[-magnitude, magnitude])
 }
 
 /// Makes one of four CTBs round a corner differ from the three others, which become equal: one of `which`, where 0 to 3 are upper left,
@@ -226,13 +207,6 @@ pub const DAMAGES: &[Damage] = &[
     damage(13, "address", filters, bad_address),
     damage(14, "region's entry", region, |i, r| put(&mut i.region, r, |r| over(r, 2))),
     damage(15, "position", causes, bad_position),
-    damage(21, "cross-component coefficient of several bits", cross_filter, |i, r| {
-        let number = several_bits(r);
-        put_cross_coefficient(i, r, number)
-    }),
-    damage(21, "cross-component coefficient of -128", cross_filter, |i, r| {
-        put_cross_coefficient(i, r, -128)
-    }),
 ];
 
 /// Spoils luma's input too: a CTB's chroma parameters are then to be 0.

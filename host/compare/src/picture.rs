@@ -51,7 +51,7 @@ fn bank(random: &mut Random, bit_depth: u8) -> Vec<i16> {
                 bank.extend((0..taps).map(|_| clip(random, clips, bit_depth)));
             }
         }
-        bank.extend((0..2 * 4 * 7).map(|_| cross_coefficient(random, style)));
+        bank.extend((0..2 * 4 * 7).map(|_| coefficient(random, style)));
     }
     bank
 }

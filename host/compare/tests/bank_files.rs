@@ -42,20 +42,13 @@ fn by_the_wrapper(bit_depth: u8, numbers: &[i16], file: &[u8]) {
     assert_eq!(found, numbers);
 }
 
-/// Whether a bank has a cross-component filter that H.266 cannot send: the cross-component filter rejects it, bank files do not.
+/// Whether a bank has a cross-component filter that H.266 cannot send; bank files take it as any other.
 fn has_offender(bank: &[i16]) -> bool {
     !model::offending_cross_filters(bank).is_empty()
 }
 
-/// What a run over random banks has seen.
-#[derive(Default)]
-struct Banks {
-    lengths: Vec<usize>,
-    with_offenders: usize,
-}
-
 /// A random bank, from one with no filter to one with all: written by both into room of any size that is enough, and read back.
-fn written_and_read_back(seed: u64, seen: &mut Banks) {
+fn written_and_read_back(seed: u64, lengths: &mut Vec<usize>, with_offenders: &mut usize) {
     let mut random = Random::new(seed);
     let (bit_depth, share) = (8 + (seed % 5) as u8, random.pick(&[1, 1, 2, 10, 100, 400, 3000]));
     let numbers = bank(&mut random, bit_depth, share);
@@ -67,22 +60,22 @@ fn written_and_read_back(seed: u64, seen: &mut Banks) {
     assert_eq!((read.number, read.bit_depth), (0, bit_depth));
     assert!(read.bank == numbers, "what is read is not what was written");
     by_the_wrapper(bit_depth, &numbers, file);
-    seen.lengths.push(file.len());
-    seen.with_offenders += usize::from(has_offender(&numbers));
+    lengths.push(file.len());
+    *with_offenders += usize::from(has_offender(&numbers));
 }
 
 #[test]
 fn banks_are_written_and_read_back() {
-    let mut seen = Banks::default();
-    let whole = seeds::run("banks", 11_000_000, 5000, |seed| written_and_read_back(seed, &mut seen));
-    let least = seen.lengths.iter().min().copied().unwrap_or(0);
-    let most = seen.lengths.iter().max().copied().unwrap_or(0);
-    eprintln!(
-        "  banks: files of {least} to {most} bytes; {} with a cross-component filter that H.266 cannot send",
-        seen.with_offenders
-    );
+    let (mut lengths, mut with_offenders) = (Vec::new(), 0);
+    let whole = seeds::run("banks", 11_000_000, 5000, |seed| {
+        written_and_read_back(seed, &mut lengths, &mut with_offenders)
+    });
+    let least = lengths.iter().min().copied().unwrap_or(0);
+    let most = lengths.iter().max().copied().unwrap_or(0);
+    eprintln!("  banks: files of {least} to {most} bytes");
+    eprintln!("  banks: {with_offenders} with a cross-component filter that H.266 cannot send");
     assert!(!whole || (least, most) == (4, BANK_FILE_BYTES), "no shortest or no longest file");
-    assert!(!whole || seen.with_offenders >= 1000, "too few filters that H.266 cannot send");
+    assert!(!whole || with_offenders >= 1000, "too few filters that H.266 cannot send");
 }
 
 /// Room for a file: mostly enough.
@@ -200,9 +193,10 @@ fn damaged_files(seed: u64, done: &mut Damaged) {
 fn files_that_were_damaged() {
     let mut done = Damaged::default();
     let whole = seeds::run("damaged files", 13_000_000, 3000, |seed| damaged_files(seed, &mut done));
+    eprintln!("  damaged files: {} of them, {}", done.files, done.answers);
     eprintln!(
-        "  damaged files: {} of them, {}; of the accepted ones {} with a cross-component filter that H.266 cannot send",
-        done.files, done.answers, done.with_offenders
+        "  damaged files: of the accepted ones {} with a cross-component filter that H.266 cannot send",
+        done.with_offenders
     );
     if whole {
         assert!(done.files >= ENOUGH, "too few files were damaged");

@@ -1,5 +1,5 @@
-//! Coefficients of cross-component filters: which ones the cross-component filter accepts; and the program that names the filters of a
-//! bank file with others.
+//! Coefficients of cross-component filters: those that H.266 can send, which the cross-component filter takes wherever they stand; and the
+//! program that names the filters of a bank file with others.
 use compare::bank_files::file;
 use compare::cross_filters::{cross_places, expected, kind, made_file, of_a_folder, printed, printed_in_pieces, KINDS, MOST_READ, WAYS};
 use compare::random::Random;
@@ -69,39 +69,33 @@ fn cross_component(component: u8, bank: &[i16]) -> (u8, [u16; 16]) {
     filtered(|output| raspbegonia::cross_component(&PICTURE, component, &parameters(bank), &plane::<64>(), &plane::<16>(), output))
 }
 
-/// A bank whose luma and chroma filters are all 7s, which no cross-component coefficient may be; its cross-component filters are 0.
+/// A bank whose luma and chroma filters are all 7s, which is no cross-component coefficient that can be sent; its cross-component filters are 0.
 fn plain_bank() -> Vec<i16> {
     let mut bank = vec![7; BANK_NUMBERS];
     cross_places().into_iter().for_each(|place| bank[place] = 0);
     bank
 }
 
+/// They are accepted; few of them change a sample.
 #[test]
-fn every_coefficient_at_every_place() {
+fn every_coefficient_that_can_be_sent_at_every_place() {
     let (mut bank, places) = (plain_bank(), cross_places());
     assert_eq!(places.len(), 448);
-    let (mut accepted, mut changed, mut rejected) = (0, 0, 0);
+    let (mut accepted, mut changed) = (0, 0);
     for place in places {
-        for coefficient in -128..=127 {
+        for coefficient in SENDABLE {
             bank[place] = coefficient;
             for component in [0, 1] {
                 let (number, output) = cross_component(component, &bank);
-                if SENDABLE.contains(&coefficient) {
-                    assert_eq!(number, 0, "{coefficient} at {place}");
-                    accepted += 1;
-                    changed += usize::from(output != plane());
-                } else {
-                    assert_eq!((number, output), (21, [7777; 16]), "{coefficient} at {place}");
-                    rejected += 1;
-                }
+                assert_eq!(number, 0, "{coefficient} at {place}");
+                accepted += 1;
+                changed += usize::from(output != plane());
             }
         }
         bank[place] = 0;
     }
-    eprintln!(
-        "  cross-component coefficients: 448 places, {accepted} calls accepted, of which {changed} change a sample, {rejected} rejected"
-    );
-    assert_eq!((accepted, rejected), (448 * 15 * 2, 448 * 241 * 2));
+    eprintln!("  cross-component coefficients: 448 places, {accepted} calls accepted, of which {changed} change a sample");
+    assert_eq!(accepted, 448 * 15 * 2);
     // each component uses one filter: 7 places, and 14 coefficients that are not 0
     assert!(
         changed > 0 && changed <= 7 * 14 * 2,
@@ -109,7 +103,7 @@ fn every_coefficient_at_every_place() {
     );
 }
 
-/// The other two filters take every bank of these, and do the same.
+/// The other two filters take every cross-component coefficient, and do the same.
 #[test]
 fn luma_and_chroma_take_every_coefficient() {
     let all = |bank: &[i16]| (luma(bank), chroma(0, bank), chroma(1, bank));
@@ -181,13 +175,13 @@ fn the_program_reads_as_far_as_a_fault_can_lie() {
     }
 }
 
-/// What can't be read is no empty file.
+/// What can't be read is no empty file: nothing is printed, and the exit status is 1.
 #[test]
 fn the_program_says_that_its_input_cannot_be_read() {
-    let (stdout, stderr) = of_a_folder();
+    let (status, stdout, stderr) = of_a_folder();
     assert_eq!(
-        (stdout.as_str(), stderr.as_str()),
-        ("", "cross_filters: standard input can't be read\n")
+        (status, stdout.as_str(), stderr.as_str()),
+        (Some(1), "", "cross_filters: standard input can't be read\n")
     );
 }
 
@@ -273,16 +267,15 @@ fn the_program_is_proved_with_the_stored_offenders() {
     }
 }
 
-/// Stored files open and are written again as they are, also one whose bank the cross-component filter rejects.
+/// Stored files open and are written again as they are, also one with cross-component filters that H.266 cannot send.
 #[test]
 fn stored_files_open_whatever_their_cross_component_filters() {
-    for (name, answer) in [("clean", 0), ("offenders", 21)] {
+    for name in ["clean", "offenders"] {
         let file = fs::read(stored(&format!("{name}.bank"))).expect("a stored file");
         let (mut bank, mut again) = (vec![0; BANK_NUMBERS], vec![0; BANK_FILE_BYTES]);
         let bit_depth = raspbegonia::bank_read(&file, &mut bank).expect("a file that opens");
         assert_eq!(raspbegonia::bank_write(bit_depth, &bank, &mut again), Ok(file.len()));
         assert!(again[..file.len()] == file, "{name}.bank is written as another file");
         assert_eq!((luma(&bank).0, chroma(0, &bank).0, chroma(1, &bank).0), (0, 0, 0), "{name}");
-        assert_eq!([0, 1].map(|component| cross_component(component, &bank).0), [answer; 2], "{name}");
     }
 }

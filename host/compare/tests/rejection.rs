@@ -10,10 +10,8 @@ use compare::seeds;
 use raspbegonia::Fault;
 use std::fmt;
 
-/// The numbers that an operation on a picture can reject with: 1 to 15 and 21. Those between are of a bank file's fields, or no faults.
-fn numbers() -> impl Iterator<Item = usize> {
-    (1..=Fault::Position as usize).chain([Fault::CrossCoefficient as usize])
-}
+/// Accepted, and the numbers that an operation on a picture can answer with; the higher ones are those of a bank file's fields.
+const ANSWERS: usize = 1 + Fault::Position as usize;
 
 /// What a test has really done: a seed whose picture has no place for its damage, or draws none, counts nowhere.
 #[derive(Default)]
@@ -22,13 +20,13 @@ struct Done {
     damages: usize,
     calls: usize,
     /// Calls by the number that they were answered with; 0 where the operation is not given what was damaged.
-    answers: [usize; 1 + Fault::CrossCoefficient as usize],
+    answers: [usize; ANSWERS],
 }
 
 impl fmt::Display for Done {
     fn fmt(&self, f: &mut fmt::Formatter) -> fmt::Result {
         let rejected = self.calls - self.answers[0];
-        let by_number: Vec<String> = numbers().map(|n| format!("{n}: {}", self.answers[n])).collect();
+        let by_number: Vec<String> = (1..self.answers.len()).map(|n| format!("{n}: {}", self.answers[n])).collect();
         write!(
             f,
             "{} inputs really damaged, in {} places; of {} calls {rejected} rejected, by number {}",
@@ -81,7 +79,7 @@ fn enough(what: &str, done: &Done, whole: bool) {
     eprintln!("  {what}: {done}");
     assert!(!whole || done.inputs >= INPUTS, "{what}: too few inputs were damaged");
     assert!(
-        !whole || [0].into_iter().chain(numbers()).all(|n| done.answers[n] > 0),
+        !whole || done.answers.iter().all(|n| *n > 0),
         "{what}: a number was never the answer"
     );
 }
@@ -122,25 +120,4 @@ fn several_damages() {
         judged(&input, &damages, side, &mut done);
     });
     enough("several damages", &done, whole);
-}
-
-/// A cross-component coefficient beside each other damage: where the cross-component filter judges both, it answers with the other.
-#[test]
-fn a_cross_coefficient_beside_another_damage() {
-    let coefficient = |damage: &&Damage| damage.number == Fault::CrossCoefficient as u8;
-    let (coefficients, others): (Vec<&Damage>, Vec<&Damage>) = DAMAGES.iter().partition(coefficient);
-    let mut done = Done::default();
-    let whole = seeds::run("a coefficient beside another damage", 17_000_000, 500, |seed| {
-        let mut random = Random::new(seed);
-        let (mut input, side) = small_picture(&mut random);
-        let both = [random.pick(&coefficients), others[seed as usize % others.len()]];
-        if both.iter().all(|damage| (damage.spoil)(&mut input, &mut random)) {
-            judged(&input, &both, side, &mut done);
-        }
-    });
-    eprintln!("  a coefficient beside another damage: {done}");
-    assert!(
-        !whole || numbers().all(|n| done.answers[n] > 0),
-        "a number was never beside a coefficient"
-    );
 }

@@ -68,7 +68,6 @@ pub fn cross_component(layout: &Layout, component: u8, parameters: &Parameters, 
     let given = Given {
         component: Some(component),
         parameters: Some(parameters),
-        cross_bank: Some(parameters.bank),
         luma: Some(luma),
         chroma: Some(chroma),
         output: Some(Output {

@@ -1,6 +1,5 @@
 //! The causes for which a picture is rejected (01, the table of numbers, and 02).
 
-use crate::cross_coefficients::offending_cross_filters;
 use crate::layout::{Cell, Ctb, FixedTables, Layout, Parameters};
 
 /// What an operation is given besides the layout; what is absent is not judged.
@@ -8,8 +7,6 @@ use crate::layout::{Cell, Ctb, FixedTables, Layout, Parameters};
 pub(crate) struct Given<'a> {
     pub component: Option<u8>,
     pub parameters: Option<&'a Parameters<'a>>,
-    /// The bank once more, for the filter that judges its cross-component coefficients.
-    pub cross_bank: Option<&'a [i16]>,
     pub fixed: Option<&'a FixedTables<'a>>,
     pub luma: Option<&'a [u16]>,
     pub chroma: Option<&'a [u16]>,
@@ -31,29 +28,28 @@ pub(crate) struct Output {
 /// One cause: true where it applies. It may count on all earlier ones not applying.
 type Cause = fn(&Layout, &Given) -> bool;
 
-/// The causes by their numbers, rising; those of a bank file's fields are not here.
-const CAUSES: [(u8, Cause); 16] = [
-    (1, size),
-    (2, ctb_exponent),
-    (3, bit_depth),
-    (4, chroma_work),
-    (5, lengths),
-    (6, virtual_boundaries),
-    (7, tile_numbers),
-    (8, slice_map),
-    (9, subpictures),
-    (10, parameters),
-    (11, numbers),
-    (12, samples),
-    (13, addresses),
-    (14, region_bytes),
-    (15, outside),
-    (21, cross_coefficients),
+/// The causes in the order of their numbers, from 1.
+const CAUSES: [Cause; 15] = [
+    size,
+    ctb_exponent,
+    bit_depth,
+    chroma_work,
+    lengths,
+    virtual_boundaries,
+    tile_numbers,
+    slice_map,
+    subpictures,
+    parameters,
+    numbers,
+    samples,
+    addresses,
+    region_bytes,
+    outside,
 ];
 
 /// The lowest number that applies, or 0.
 pub(crate) fn judge(layout: &Layout, given: &Given) -> u8 {
-    for (number, cause) in CAUSES {
+    for (cause, number) in CAUSES.iter().zip(1..) {
         if cause(layout, given) {
             return number;
         }
@@ -280,9 +276,4 @@ fn region_bytes(_: &Layout, given: &Given) -> bool {
 /// 15: the position lies outside the picture.
 fn outside(layout: &Layout, given: &Given) -> bool {
     given.position.is_some_and(|(x, y)| x >= layout.width || y >= layout.height)
-}
-
-/// 21: a cross-component coefficient that H.266 can't send, wherever it stands in the bank.
-fn cross_coefficients(_: &Layout, given: &Given) -> bool {
-    given.cross_bank.is_some_and(|bank| !offending_cross_filters(bank).is_empty())
 }

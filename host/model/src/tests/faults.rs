@@ -1,4 +1,4 @@
-//! Each cause of 01's table and of 02, and its rank among the others.
+//! Each cause of 01's table, and its rank among the others.
 
 use super::{Given, SENDABLE};
 
@@ -21,11 +21,6 @@ fn after(change: impl Fn(&mut Given)) -> [u8; 6] {
 /// The number where only the three filters judge.
 fn filters(number: u8) -> [u8; 6] {
     [0, number, number, number, 0, 0]
-}
-
-/// The number where only the cross-component filter judges.
-fn cross_filter(number: u8) -> [u8; 6] {
-    [0, 0, 0, number, 0, 0]
 }
 
 #[test]
@@ -179,15 +174,9 @@ fn ctb_params_under_chroma_format_0() {
 #[test]
 fn bank_and_fixed_filters() {
     let bank = |index: usize, number: i16| after(|given| given.bank[752 * 7 + index] = number);
-    for coefficient in [0, 11, 24, 599 - 12, 600, 605, 684] {
+    for coefficient in [0, 11, 24, 599 - 12, 600, 605, 684, 696, 723, 724, 751] {
         assert_eq!(bank(coefficient, -128), filters(0));
         assert_eq!(bank(coefficient, 127), filters(0));
-        assert_eq!(bank(coefficient, -129), filters(11));
-        assert_eq!(bank(coefficient, 128), filters(11));
-    }
-    for coefficient in [696, 723, 724, 751] {
-        assert_eq!(bank(coefficient, -128), cross_filter(21));
-        assert_eq!(bank(coefficient, 127), cross_filter(21));
         assert_eq!(bank(coefficient, -129), filters(11));
         assert_eq!(bank(coefficient, 128), filters(11));
     }
@@ -202,36 +191,20 @@ fn bank_and_fixed_filters() {
     assert_eq!(after(|given| given.fixed_map[399] = 64), [0, 11, 0, 0, 0, 0]);
 }
 
-/// Luma and chroma do not judge it, nor do the operations that have no bank.
+/// Whether H.266 can send them is judged neither by luma and chroma nor by the operations that have no bank.
 #[test]
 fn cross_coefficients() {
     let with = |coefficient: i16| after(|given| given.bank[752 + 696 + 3] = coefficient);
-    for coefficient in [3, -3, 5, 6, 7, 12, 63, 65, -65, 66, 96, -96, 126, 127, -127, -128] {
-        assert_eq!(with(coefficient), cross_filter(21), "{coefficient}");
-    }
     for coefficient in -128..=127 {
-        let number = if SENDABLE.contains(&coefficient) { 0 } else { 21 };
-        assert_eq!(with(coefficient), cross_filter(number), "{coefficient}");
+        let [classes, luma, chroma, _, isolated, causes] = with(coefficient);
+        assert_eq!([classes, luma, chroma, isolated, causes], [0; 5], "{coefficient}");
+    }
+    for coefficient in SENDABLE {
+        assert_eq!(with(coefficient), [0; 6], "{coefficient}");
     }
     // What the luma and chroma filters of a bank are is not asked.
     for place in [0, 600] {
         assert_eq!(after(|given| given.bank[place] = 3), [0; 6]);
-    }
-}
-
-/// Every APS, both components, all four filters and seven coefficients, whichever component is
-/// filtered; no CTB uses any of them, nor is one listed.
-#[test]
-fn cross_coefficients_that_are_not_used() {
-    let mut given = Given::plain(8, 8, 5, 8);
-    given.ctb_list.clear();
-    for place in (0..8).flat_map(|aps| (0..56).map(move |k| 752 * aps + 696 + k)) {
-        for (coefficient, number) in [(3, 21), (64, 0), (0, 0)] {
-            given.bank[place] = coefficient;
-            let output = vec![if number == 0 { 0 } else { 777 }; 16];
-            assert_eq!(given.filter_cross(0), (number, output.clone()), "{coefficient} at {place}");
-            assert_eq!(given.filter_cross(1), (number, output), "{coefficient} at {place}");
-        }
     }
 }
 
@@ -250,94 +223,115 @@ fn samples_addresses_region_and_position() {
     }
 }
 
-/// A number, and how to mend its cause.
-type Mend = (u8, fn(&mut Given));
-
-/// Breaks what every operation judges first: 1 to 4 and 6 to 9.
-fn spoil_layout(given: &mut Given) {
-    given.subpic_across[0] = 2;
-    given.slice_map[0] = 2;
-    given.tile_rows[0] = 1;
-    given.virtual_rows = vec![1];
-    given.chroma_format = 4;
-    given.bit_depth = 0;
-    given.ctb_log2 = 0;
-    given.width = 0;
-}
-
-/// How to mend that, lowest number first, with a length of the operation's own in its place, and what comes behind it.
-fn mends(length: fn(&mut Given), behind: &[Mend]) -> Vec<Mend> {
-    let layout: [Mend; 9] = [
-        (1, |given| given.width = 96),
-        (2, |given| given.ctb_log2 = 5),
-        (3, |given| given.bit_depth = 10),
-        (4, |given| given.chroma_format = 1),
-        (5, length),
-        (6, |given| given.virtual_rows.clear()),
-        (7, |given| given.tile_rows[0] = 0),
-        (8, |given| given.slice_map[0] = 0),
-        (9, |given| given.subpic_across[0] = 1),
-    ];
-    [&layout, behind].concat()
-}
-
 /// All causes at once; then they are mended one after another.
 #[test]
 fn lowest_number_first() {
     let mut given = good();
-    spoil_layout(&mut given);
-    given.fixed_filters.push(0);
-    given.ctb_params[0] = 2;
-    given.fixed_map[0] = 64;
     given.luma[0] = 5000;
     given.ctb_list.push(9);
-    let behind: [Mend; 4] = [
-        (10, |given| given.ctb_params[0] = 1),
-        (11, |given| given.fixed_map[0] = 0),
-        (12, |given| given.luma[0] = 0),
-        (13, |given| given.ctb_list.clear()),
+    given.fixed_map[0] = 64;
+    given.ctb_params[0] = 2;
+    given.subpic_across[0] = 2;
+    given.slice_map[0] = 2;
+    given.tile_rows[0] = 1;
+    given.virtual_rows = vec![1];
+    given.fixed_filters.push(0);
+    given.chroma_format = 4;
+    given.bit_depth = 0;
+    given.ctb_log2 = 0;
+    given.width = 0;
+    let mends: [fn(&mut Given); 13] = [
+        |given| given.width = 96,
+        |given| given.ctb_log2 = 5,
+        |given| given.bit_depth = 10,
+        |given| given.chroma_format = 1,
+        |given| given.fixed_filters.truncate(768),
+        |given| given.virtual_rows.clear(),
+        |given| given.tile_rows[0] = 0,
+        |given| given.slice_map[0] = 0,
+        |given| given.subpic_across[0] = 1,
+        |given| given.ctb_params[0] = 1,
+        |given| given.fixed_map[0] = 0,
+        |given| given.luma[0] = 0,
+        |given| given.ctb_list.clear(),
     ];
-    for (number, mend) in mends(|given| given.fixed_filters.truncate(768), &behind) {
+    for (mend, number) in mends.into_iter().zip(1..) {
         assert_eq!(given.filter_luma(), (number, vec![777; 96 * 96]));
         mend(&mut given);
     }
     assert_eq!(given.filter_luma().0, 0);
 }
 
+/// A number, and how to mend its cause.
+type Mend = (u8, fn(&mut Given));
+
 /// The same for the causes of clip positions: their length stands before the boundary
 /// tables, the position comes last.
 #[test]
 fn position_is_judged_last() {
     let mut given = good();
-    spoil_layout(&mut given);
-    given.causes = 5;
     given.position = (96, 96);
-    for (number, mend) in mends(|given| given.causes = 4, &[(15, |given| given.position = (95, 95))]) {
+    given.subpic_across[0] = 2;
+    given.slice_map[0] = 2;
+    given.tile_rows[0] = 1;
+    given.virtual_rows = vec![1];
+    given.causes = 5;
+    given.chroma_format = 4;
+    given.bit_depth = 0;
+    given.ctb_log2 = 0;
+    given.width = 0;
+    let mends: [Mend; 10] = [
+        (1, |given| given.width = 96),
+        (2, |given| given.ctb_log2 = 5),
+        (3, |given| given.bit_depth = 10),
+        (4, |given| given.chroma_format = 1),
+        (5, |given| given.causes = 4),
+        (6, |given| given.virtual_rows.clear()),
+        (7, |given| given.tile_rows[0] = 0),
+        (8, |given| given.slice_map[0] = 0),
+        (9, |given| given.subpic_across[0] = 1),
+        (15, |given| given.position = (95, 95)),
+    ];
+    for (number, mend) in mends {
         assert_eq!(given.clip_causes(), (number, vec![77; given.causes]));
         mend(&mut given);
     }
     assert_eq!(given.clip_causes().0, 0);
 }
 
-/// The same for the cross-component filter: its coefficients come behind the list of CTBs.
+/// All causes of the cross-component filter at once.
 #[test]
-fn cross_coefficients_are_judged_last() {
+fn lowest_number_first_by_the_cross_component_filter() {
     let mut given = good();
-    spoil_layout(&mut given);
-    given.slice_params.push(0);
-    given.ctb_params[6] = 5;
-    given.bank[696] = 128;
-    given.chroma[0] = 1024;
     given.ctb_list.push(9);
-    given.bank[8 * 752 - 1] = -128;
-    let behind: [Mend; 5] = [
+    given.chroma[0] = 1024;
+    given.bank[696] = 128;
+    given.ctb_params[6] = 5;
+    given.subpic_across[0] = 2;
+    given.slice_map[0] = 2;
+    given.tile_rows[0] = 1;
+    given.virtual_rows = vec![1];
+    given.slice_params.push(0);
+    given.chroma_format = 4;
+    given.bit_depth = 0;
+    given.ctb_log2 = 0;
+    given.width = 0;
+    let mends: [Mend; 13] = [
+        (1, |given| given.width = 96),
+        (2, |given| given.ctb_log2 = 5),
+        (3, |given| given.bit_depth = 10),
+        (4, |given| given.chroma_format = 1),
+        (5, |given| given.slice_params.truncate(22)),
+        (6, |given| given.virtual_rows.clear()),
+        (7, |given| given.tile_rows[0] = 0),
+        (8, |given| given.slice_map[0] = 0),
+        (9, |given| given.subpic_across[0] = 1),
         (10, |given| given.ctb_params[6] = 4),
-        (11, |given| given.bank[696] = 127),
+        (11, |given| given.bank[696] = 64),
         (12, |given| given.chroma[0] = 1023),
         (13, |given| given.ctb_list.clear()),
-        (21, |given| (given.bank[696], given.bank[8 * 752 - 1]) = (64, -64)),
     ];
-    for (number, mend) in mends(|given| given.slice_params.truncate(22), &behind) {
+    for (number, mend) in mends {
         assert_eq!(given.filter_cross(1), (number, vec![777; 48 * 48]));
         mend(&mut given);
     }

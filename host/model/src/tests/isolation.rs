@@ -69,10 +69,9 @@ fn picture(random: &mut Random) -> Given {
 
 fn fill(random: &mut Random, given: &mut Given) {
     for (index, number) in given.bank.iter_mut().enumerate() {
-        *number = match index % 752 {
-            696.. => random.cross_coefficient(),
-            place if is_clip(place) => random.below(257) as i16,
-            _ => random.below(256) as i16 - 128,
+        *number = match is_clip(index % 752) {
+            true => random.below(257) as i16,
+            false => random.below(256) as i16 - 128,
         };
     }
     for params in given.ctb_params.chunks_mut(8) {

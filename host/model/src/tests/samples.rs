@@ -118,10 +118,9 @@ fn cross_component_term_is_clipped() {
     given.chroma = vec![200; 16];
     given.ctb_params[6] = 1;
     for coefficient in 0..7 {
-        given.bank[696 + coefficient] = 64;
+        given.bank[696 + coefficient] = 127;
     }
-    let (number, output) = given.filter_cross(0);
-    assert_eq!(number, 0);
+    let (_, output) = given.filter_cross(0);
     // At ( 0, 0 ) five of the seven differ by −255, those that do not pad to ( 0, 0 ).
     assert_eq!(output[0], 72);
 }
