@@ -5,6 +5,7 @@ use mathlib.Core.Bool.{true}
 use Prim.Native.Nat.{◌/◌, ◌%◌, ◌<◌}
 use native.Mathlib.Nat.{div-add-mod'}
 use native.Mathlib.Omega.{arith}
+use lib.ListN.{get_or}
 use borrow.Author.Rules.{rules}
 use borrow.Author.Tests.{eq-eqb, ne_eqb}
 use Rattle.alf_spec.specs.declared.Ctb.{Ctb}
@@ -37,33 +38,29 @@ start c =
     let boundaries = maps.before.before.before in
     boundaries.before.before.before
 
--- the CTB's mark
-on : (c : tie.Else-marks-at-ne1) → let s = start c.before in is_marked s.args.marks.now s.args.k ≡ true
-on c = eq-eqb _ _ c.if-marks-at-ne1.false
-
--- the first return, where it is not marked
-not-marked : tie.Need-returns-then-marks-at-ne1
-not-marked c = ((λ i given planned. ctb_fails _ _ _ _ _ _ (ne_eqb _ _ c.if-marks-at-ne1.true)), (start c.before).requires.5.spread)
+-- the CTB's mark, where its sides are read: the test has failed. No step of the test is named here, since a name has its number
+on : (c : tie.After-sides_at-own_sides) → let s = start c.before.before in is_marked s.args.marks.now s.args.k ≡ true
+on c = let s = start c.before.before in eq-eqb (get_or s.args.marks.now s.args.k 0) 1 (search rules)
 
 load-requires : tie.Need-load-requires
 load-requires c κs =
-    let marked : tie.Else-marks-at-ne1 = search rules in
-    let s = start marked.before in
+    let sided : tie.After-sides_at-own_sides = search rules in
+    let s = start sided.before.before in
     let accepted = s.requires.0 in (
       accepted.component,
       accepted.ctbs s.args.k s.requires.1,
       accepted.fixed,
-      s.requires.4 s.args.k s.requires.3 (on marked),
+      s.requires.4 s.args.k s.requires.3 (on sided),
       refl,
       zeros 600,
     )
 
 -- what the function is given, from where its filter's numbers are loaded
-abbrev marked : tie.After-load → tie.Else-marks-at-ne1
-marked c = search rules
+abbrev sides_read : tie.After-load → tie.After-sides_at-own_sides
+sides_read c = search rules
 
 abbrev given : tie.After-load → tie.Start
-given c = start (marked c).before
+given c = start (sides_read c).before.before
 
 -- a picture has a CTB column
 columns-some : (c : tie.After-load) → 0 < (given c).args.grid.columns
@@ -114,7 +111,7 @@ filtered c =
           let own = subst (λ (p : Picture). CtbOf i.layout p ctb sided.sides_at-own_sides.result) same (ctb-accepted ok sides) in
           let at : address i.layout ctb ≡ k =
           rw (← (grid-columns i.layout _ grid)) (div-add-mod' k g.columns) in
-          ctb_passes_lem _ _ _ _ k _ (on (marked load))
+          ctb_passes_lem _ _ _ _ k _ (on sided)
           (ctb-done f i.layout ok g _ _ _ k same picture.grid s.requires.5.output_length
           (done.0 i ctb own (same-luma of) (same-chroma of) (load.load.ensures.1 i _ (same_tables of at) (same-fixed of))
           (column_pieces own picture.grid (walk_line f) (same_virtual_columns of))
@@ -125,7 +122,11 @@ filtered c =
 pub filter_address_spec : {M : Type 1} → statement M
 filter_address_spec =
     tie.close
-    (tie.spec (λ c. search rules) not-marked (λ c κs. search rules) (λ c. search rules) (λ c. search rules) load-requires
+    (tie.spec (λ c. search rules)
+    (λ c.
+    let s = start c.before in
+    ((λ i given planned. ctb_fails _ _ _ _ _ _ (ne_eqb (get_or s.args.marks.now s.args.k 0) 1 (search rules))), s.requires.5.spread))
+    (λ c κs. search rules) (λ c. search rules) (λ c. search rules) load-requires
     (λ c. let load : tie.After-load = search rules in omega (arith, columns-some load))
     (λ c κs. search rules) (λ c κs. search rules)
     (λ c. let load : tie.After-load = search rules in omega (arith, columns-some load))
