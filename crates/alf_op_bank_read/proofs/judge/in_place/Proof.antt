@@ -1,4 +1,4 @@
--- `alf_op_bank_read::judge::in_place_lem` meets its contract. Assumes nothing.
+-- `alf_op_bank_read::judge::in_place` meets its contract. Assumes nothing.
 use borrow.Author.Rules.{rules}
 use Rattle.alf_op_bank_read.proofs.FieldFaults.{in_place_lem}
 use Rattle.alf_op_bank_read.proofs.FieldTests.{has_leads}
