@@ -1,6 +1,6 @@
 -- The operations' answers, and what stands for them: the number of paper 01's table, what the isolation test says, and the causes by
 -- number. Assumes nothing.
-use Rattle.std.specs.Prelude.{Bool, true, false, List, [], ◌∷◌, ℕ, zero, suc}
+use Rattle.std.specs.Prelude.{Bool, true, false, List, [], ◌∷◌, ℕ, zero, suc, Result, Ok, Err}
 use Rattle.std.proofs.Math.Option.{Option, some, none}
 use Rattle.alf_spec.specs.declared.Fault.{Fault}
 use Rattle.alf_spec.specs.declared.Fault.TheVariants.{PictureSize, CtbSize, BitDepth, ChromaFormat, Length, VirtualBoundary, Tile}
@@ -36,6 +36,16 @@ fault_number Position = 15
 fault_number FieldCutShort = 16
 fault_number FieldUnlisted = 17
 fault_number FieldOutOfPlace = 18
+
+-- what an operation answers, or why it rejects what it was given: accepted work has the number 0
+abbrev pub number_of : {A : Type 0} → Result A Fault → ℕ
+number_of (Ok a) = 0
+number_of (Err f) = fault_number f
+
+-- what it answers; none where it rejects
+abbrev pub answer_of : {A : Type 0} → Result A Fault → Option A
+answer_of (Ok a) = some a
+answer_of (Err f) = none
 
 -- accepted work returns 0
 abbrev pub number : Answer → ℕ

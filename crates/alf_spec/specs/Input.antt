@@ -101,6 +101,10 @@ input_of l luma_samples chroma_samples slice_params bank ctb_params ctb_list fix
   output_length = output_length;
 }
 
+-- the same input, for an output of this length
+abbrev pub with_output : ℕ → Input → Input
+with_output n i = input_of i.layout i.luma i.chroma i.slice_params i.bank i.ctb_params i.ctb_list i.fixed_filters i.fixed_map n
+
 abbrev pub classes_input : Layout → List ℕ → ℕ → Input
 classes_input l luma_samples output_length = input_of l luma_samples [] [] [] [] [] [] [] output_length
 

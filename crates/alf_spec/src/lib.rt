@@ -1,6 +1,12 @@
 // The types that callers of the operations see, and those that code and definitions share.
 #![tactic(auto)]
 
+mod inputs;
+
+pub use inputs::{FilterInput, Layout};
+
+use std::fmt;
+
 // A picture's sizes and switches (01: frame). A switch that is true filters across.
 #[derive(Clone, Copy)]
 pub struct Picture {
@@ -19,7 +25,7 @@ pub struct Picture {
 }
 
 // Why an input is rejected, in the order of the numbers 1 to 14 of 01's table and of those that 02's cards add.
-#[derive(Clone, Copy)]
+#[derive(Clone, Copy, PartialEq, Eq)]
 pub enum Fault {
     PictureSize,
     CtbSize,
@@ -76,7 +82,7 @@ pub enum Isolation {
 
 // Why filtering stops at a side of a luma sample, or of a CTB (02, card 1: cause), in the order of the numbers 0 to 5. A CTB's side is
 // open, or has one of the last three.
-#[derive(Clone, Copy)]
+#[derive(Clone, Copy, PartialEq, Eq)]
 pub enum ClipCause {
     Open,
     // 01: the line
@@ -85,6 +91,19 @@ pub enum ClipCause {
     Tile,
     Slice,
     Subpicture,
+}
+
+impl fmt::Display for ClipCause {
+    fn fmt<W: fmt::Write>(&self, f: &mut fmt::Formatter<W>) -> fmt::Result {
+        f.write_str(match self {
+            ClipCause::Open => "open",
+            ClipCause::LineBufferBoundary => "line-buffer boundary",
+            ClipCause::VirtualBoundary => "virtual boundary",
+            ClipCause::Tile => "tile",
+            ClipCause::Slice => "slice",
+            ClipCause::Subpicture => "subpicture",
+        })
+    }
 }
 
 // A clip position (01: edge) of a luma sample, with its cause.
