@@ -1,8 +1,8 @@
 // The numbers of paper 01's table: of each fault, and of the answer of each operation. 0 is an accepted input.
 ghost use Rattle.std.specs.Prelude.{◌≡◌};
-ghost use Rattle.alf_spec.specs.Answers.{fault_number, number as number_of, isolation_number as isolation_number_of, causes_number};
+ghost use Rattle.alf_spec.specs.Answers.{fault_number, number_of};
 
-use alf_spec::{Answer, ClipCauses, Fault, Isolation};
+use alf_spec::Fault;
 
 // The number of a fault, 1 to 18.
 pub fn fault_number(fault: Fault) -> u8
@@ -30,33 +30,12 @@ pub fn fault_number(fault: Fault) -> u8
     }
 }
 
-// The number of what the class map or a filter answers: 0 where the input is accepted.
-pub fn number(answer: Answer) -> u8
-    ensures { result ≡ number_of answer }
+// The number of what an operation answers: 0 where it accepts.
+pub fn number<T>(answer: &Result<T, Fault>) -> u8
+    ensures { result ≡ number_of answer.now }
 {
     match answer {
-        Answer::Accepted => 0,
-        Answer::Rejected(fault) => fault_number(fault),
-    }
-}
-
-// The number of what the isolation test answers: 0 where the input is accepted, whether the region is isolated or not.
-pub fn isolation_number(answer: Isolation) -> u8
-    ensures { result ≡ isolation_number_of answer }
-{
-    match answer {
-        Isolation::Isolated => 0,
-        Isolation::NotIsolated => 0,
-        Isolation::Rejected(fault) => fault_number(fault),
-    }
-}
-
-// The number of the answer about the causes at a luma position: 0 where they are named.
-pub fn causes_number(answer: ClipCauses) -> u8
-    ensures { result ≡ causes_number answer }
-{
-    match answer {
-        ClipCauses::Named(_) => 0,
-        ClipCauses::Rejected(fault) => fault_number(fault),
+        Ok(_) => 0,
+        Err(fault) => fault_number(*fault),
     }
 }

@@ -14,4 +14,4 @@ pub use alf_op_classes::classes;
 pub use alf_op_cross::cross_component;
 pub use alf_op_isolated::isolated;
 pub use alf_op_luma::luma;
-pub use answer_numbers::{causes_number, fault_number, isolation_number, number};
+pub use answer_numbers::{fault_number, number};

@@ -4,7 +4,6 @@ ghost use Rattle.alf_spec.specs.Answers.{kept};
 ghost use Rattle.alf_bank.specs.Reading.{read_fault, read_depth, read_bank};
 
 use alf::fault_number;
-use alf_bank::BankRead;
 
 // The number of the first faulty field's lowest fault, and `bank` and `bit_depth` stay as they were; or 0, and they are the file's.
 #[unsafe(no_mangle)]
@@ -14,12 +13,11 @@ pub extern "C" fn alf_bank_read(file: &[u8], bank: &mut [i16], bit_depth: &mut u
         × (bank.new ≡ kept fault (read_bank file.now) bank.old)
         × (bit_depth.new ≡ kept fault (read_depth file.now) bit_depth.old) }
 {
-    let answer = alf::read_bank(file, bank);
-    match answer {
-        BankRead::Read(depth) => {
+    match alf::read_bank(file, bank) {
+        Ok(depth) => {
             *bit_depth = depth;
             0
         }
-        BankRead::Rejected(fault) => fault_number(fault),
+        Err(fault) => fault_number(fault),
     }
 }

@@ -5,7 +5,6 @@ ghost use Rattle.alf_lists.specs.Overwrite.{overwrite};
 ghost use Rattle.alf_bank.specs.Writing.{bank_file, write_fault};
 
 use alf::fault_number;
-use alf_bank::BankWritten;
 
 // The number of the lowest fault, and `file` and `length` stay as they were; or 0, and `file` begins with the bank's file, of which
 // `length` is the length.
@@ -22,12 +21,11 @@ pub extern "C" fn alf_bank_write(
         × (file.new ≡ kept fault (overwrite 0 made file.old) file.old)
         × (length.new ≡ kept fault (bytes_in made) length.old) }
 {
-    let answer = alf::write_bank(bit_depth, bank, file);
-    match answer {
-        BankWritten::Written(bytes) => {
+    match alf::write_bank(bit_depth, bank, file) {
+        Ok(bytes) => {
             *length = bytes;
             0
         }
-        BankWritten::Rejected(fault) => fault_number(fault),
+        Err(fault) => fault_number(fault),
     }
 }

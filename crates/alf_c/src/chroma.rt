@@ -4,7 +4,7 @@ ghost use Rattle.alf_spec.specs.Input.{chroma as chroma_of, picture_of, layout_o
 ghost use Rattle.alf_spec.specs.Runs.{Ran};
 
 use alf::number;
-use alf_spec::Picture;
+use alf_spec::{FilterInput, Layout, Picture};
 
 // The number of the lowest fault, and the output stays as it was; or 0, and the output is the result.
 #[unsafe(no_mangle)]
@@ -40,16 +40,16 @@ pub extern "C" fn alf_chroma(
         (length output.old) in
         Ran (chroma_of component) input result output.old output.new }
 {
-    number(alf::chroma(
-        Picture {
-            width: width,
-            height: height,
-            ctb_log2: ctb_log2,
-            bit_depth: bit_depth,
-            chroma_format: chroma_format,
-            slice_count: slice_count,
-            across_tiles: across_tiles,
-            across_slices: across_slices,
+    let layout = Layout {
+        picture: Picture {
+            width,
+            height,
+            ctb_log2,
+            bit_depth,
+            chroma_format,
+            slice_count,
+            across_tiles,
+            across_slices,
         },
         virtual_columns,
         virtual_rows,
@@ -58,12 +58,17 @@ pub extern "C" fn alf_chroma(
         slice_map,
         subpic_map,
         subpic_across,
-        component,
+    };
+    let input = FilterInput {
+        layout,
         slice_params,
         bank,
         ctb_params,
         ctb_list,
+        fixed_filters: &[],
+        fixed_map: &[],
+        luma: &[],
         chroma,
-        output,
-    ))
+    };
+    number(&alf::chroma(component, &input, output))
 }

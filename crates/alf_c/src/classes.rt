@@ -4,7 +4,7 @@ ghost use Rattle.alf_spec.specs.Input.{classes as classes_of, picture_of, layout
 ghost use Rattle.alf_spec.specs.Runs.{Ran};
 
 use alf::number;
-use alf_spec::Picture;
+use alf_spec::{Layout, Picture};
 
 // The number of the lowest fault, and the output stays as it was; or 0, and the output is the result.
 #[unsafe(no_mangle)]
@@ -34,16 +34,16 @@ pub extern "C" fn alf_classes(
         (length class_map.old) in
         Ran classes_of input result class_map.old class_map.new }
 {
-    number(alf::classes(
-        Picture {
-            width: width,
-            height: height,
-            ctb_log2: ctb_log2,
-            bit_depth: bit_depth,
-            chroma_format: chroma_format,
-            slice_count: slice_count,
-            across_tiles: across_tiles,
-            across_slices: across_slices,
+    let layout = Layout {
+        picture: Picture {
+            width,
+            height,
+            ctb_log2,
+            bit_depth,
+            chroma_format,
+            slice_count,
+            across_tiles,
+            across_slices,
         },
         virtual_columns,
         virtual_rows,
@@ -52,7 +52,6 @@ pub extern "C" fn alf_classes(
         slice_map,
         subpic_map,
         subpic_across,
-        luma,
-        class_map,
-    ))
+    };
+    number(&alf::classes(&layout, luma, class_map))
 }

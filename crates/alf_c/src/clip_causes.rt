@@ -6,8 +6,8 @@ ghost use Rattle.alf_spec.specs.Causes.{causes_at};
 ghost use Rattle.alf_spec.specs.Answers.{cause_numbers, kept};
 ghost use Rattle.alf_c.specs.Calls.{without_room};
 
-use alf::{cause_number, causes_number, fault_number};
-use alf_spec::{ClipCauses, Picture, SideCauses};
+use alf::{cause_number, fault_number, number};
+use alf_spec::{Layout, Picture, SideCauses};
 
 // What is returned where the list has no room for four causes, which is fault 5: `number` is that of the rest of the input, and goes
 // before it where it is 1 to 4.
@@ -28,14 +28,10 @@ fn write_causes(named: SideCauses, causes: &mut [u8])
     if causes.len() != 4 {
         return;
     }
-    let top = named.top;
-    let bottom = named.bottom;
-    let left = named.left;
-    let right = named.right;
-    causes[0] = cause_number(top);
-    causes[1] = cause_number(bottom);
-    causes[2] = cause_number(left);
-    causes[3] = cause_number(right);
+    causes[0] = cause_number(named.top);
+    causes[1] = cause_number(named.bottom);
+    causes[2] = cause_number(named.left);
+    causes[3] = cause_number(named.right);
 }
 
 // The number of the lowest fault, and `causes` stays as it was; or 0, and it has the causes on the four sides of the luma sample at column
@@ -67,16 +63,16 @@ pub extern "C" fn alf_clip_causes(
         let fault = causes_fault layout (eqb (length causes.old) 4) x y in
         (result ≡ fault) × (causes.new ≡ kept fault (cause_numbers (causes_at layout x y)) causes.old) }
 {
-    let answer = alf::clip_causes(
-        Picture {
-            width: width,
-            height: height,
-            ctb_log2: ctb_log2,
-            bit_depth: bit_depth,
-            chroma_format: chroma_format,
-            slice_count: slice_count,
-            across_tiles: across_tiles,
-            across_slices: across_slices,
+    let layout = Layout {
+        picture: Picture {
+            width,
+            height,
+            ctb_log2,
+            bit_depth,
+            chroma_format,
+            slice_count,
+            across_tiles,
+            across_slices,
         },
         virtual_columns,
         virtual_rows,
@@ -85,17 +81,16 @@ pub extern "C" fn alf_clip_causes(
         slice_map,
         subpic_map,
         subpic_across,
-        x,
-        y,
-    );
+    };
+    let answer = alf::clip_causes(&layout, x, y);
     if causes.len() != 4 {
-        return without_room(causes_number(answer));
+        return without_room(number(&answer));
     }
     match answer {
-        ClipCauses::Named(named) => {
+        Ok(named) => {
             write_causes(named, causes);
             0
         }
-        ClipCauses::Rejected(fault) => fault_number(fault),
+        Err(fault) => fault_number(fault),
     }
 }

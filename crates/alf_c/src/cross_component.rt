@@ -4,7 +4,7 @@ ghost use Rattle.alf_spec.specs.Input.{cross_component, picture_of, layout_of, c
 ghost use Rattle.alf_spec.specs.Runs.{Ran};
 
 use alf::number;
-use alf_spec::Picture;
+use alf_spec::{FilterInput, Layout, Picture};
 
 // The number of the lowest fault, and the output stays as it was; or 0, and the output is the result.
 #[unsafe(no_mangle)]
@@ -41,16 +41,16 @@ pub extern "C" fn alf_cross_component(
         (length output.old) in
         Ran (cross_component component) input result output.old output.new }
 {
-    number(alf::cross_component(
-        Picture {
-            width: width,
-            height: height,
-            ctb_log2: ctb_log2,
-            bit_depth: bit_depth,
-            chroma_format: chroma_format,
-            slice_count: slice_count,
-            across_tiles: across_tiles,
-            across_slices: across_slices,
+    let layout = Layout {
+        picture: Picture {
+            width,
+            height,
+            ctb_log2,
+            bit_depth,
+            chroma_format,
+            slice_count,
+            across_tiles,
+            across_slices,
         },
         virtual_columns,
         virtual_rows,
@@ -59,13 +59,17 @@ pub extern "C" fn alf_cross_component(
         slice_map,
         subpic_map,
         subpic_across,
-        component,
+    };
+    let input = FilterInput {
+        layout,
         slice_params,
         bank,
         ctb_params,
         ctb_list,
+        fixed_filters: &[],
+        fixed_map: &[],
         luma,
         chroma,
-        output,
-    ))
+    };
+    number(&alf::cross_component(component, &input, output))
 }

@@ -7,7 +7,7 @@ ghost use Rattle.alf_spec.specs.Answers.{kept};
 ghost use Rattle.alf_c.specs.Calls.{isolated_byte};
 
 use alf::fault_number;
-use alf_spec::{Isolation, Picture};
+use alf_spec::{Layout, Picture};
 
 // The number of the lowest fault, and `isolated` stays as it was; or 0, and it is 1 where no open step leads out of the region, else 0.
 #[unsafe(no_mangle)]
@@ -37,16 +37,16 @@ pub extern "C" fn alf_isolated(
         (result ≡ fault)
         × (isolated.new ≡ kept fault (isolated_byte (isolated_by layout region.now)) isolated.old) }
 {
-    let answer = alf::isolated(
-        Picture {
-            width: width,
-            height: height,
-            ctb_log2: ctb_log2,
-            bit_depth: bit_depth,
-            chroma_format: chroma_format,
-            slice_count: slice_count,
-            across_tiles: across_tiles,
-            across_slices: across_slices,
+    let layout = Layout {
+        picture: Picture {
+            width,
+            height,
+            ctb_log2,
+            bit_depth,
+            chroma_format,
+            slice_count,
+            across_tiles,
+            across_slices,
         },
         virtual_columns,
         virtual_rows,
@@ -55,17 +55,12 @@ pub extern "C" fn alf_isolated(
         slice_map,
         subpic_map,
         subpic_across,
-        region,
-    );
-    match answer {
-        Isolation::Isolated => {
-            *isolated = 1;
+    };
+    match alf::isolated(&layout, region) {
+        Ok(inside) => {
+            *isolated = u8::from(inside);
             0
         }
-        Isolation::NotIsolated => {
-            *isolated = 0;
-            0
-        }
-        Isolation::Rejected(fault) => fault_number(fault),
+        Err(fault) => fault_number(fault),
     }
 }

@@ -4,7 +4,7 @@ ghost use Rattle.alf_spec.specs.Input.{luma as luma_of, picture_of, layout_of, l
 ghost use Rattle.alf_spec.specs.Runs.{Ran};
 
 use alf::number;
-use alf_spec::Picture;
+use alf_spec::{FilterInput, Layout, Picture};
 
 // The number of the lowest fault, and the output stays as it was; or 0, and the output is the result.
 #[unsafe(no_mangle)]
@@ -41,16 +41,16 @@ pub extern "C" fn alf_luma(
         (length output.old) in
         Ran luma_of input result output.old output.new }
 {
-    number(alf::luma(
-        Picture {
-            width: width,
-            height: height,
-            ctb_log2: ctb_log2,
-            bit_depth: bit_depth,
-            chroma_format: chroma_format,
-            slice_count: slice_count,
-            across_tiles: across_tiles,
-            across_slices: across_slices,
+    let layout = Layout {
+        picture: Picture {
+            width,
+            height,
+            ctb_log2,
+            bit_depth,
+            chroma_format,
+            slice_count,
+            across_tiles,
+            across_slices,
         },
         virtual_columns,
         virtual_rows,
@@ -59,6 +59,9 @@ pub extern "C" fn alf_luma(
         slice_map,
         subpic_map,
         subpic_across,
+    };
+    let input = FilterInput {
+        layout,
         slice_params,
         bank,
         ctb_params,
@@ -66,6 +69,7 @@ pub extern "C" fn alf_luma(
         fixed_filters,
         fixed_map,
         luma,
-        output,
-    ))
+        chroma: &[],
+    };
+    number(&alf::luma(&input, output))
 }

@@ -1,9 +1,9 @@
 // Every operation on the example picture, and what it leaves, for the example programs.
 #![tactic(auto)]
 
-use alf::{isolation_number, number};
+use alf::number;
 use alf_print::{print, print_answer, print_isolation, print_map, print_plane};
-use alf_spec::Picture;
+use alf_spec::{FilterInput, Layout};
 use example_pictures::drawing::draw_chroma;
 use example_pictures::layout::{
     SLICE_MAP, SUBPIC_ACROSS, SUBPIC_MAP, TILES, VIRTUAL_COLUMNS, VIRTUAL_ROWS, picture,
@@ -13,34 +13,46 @@ use example_pictures::tables::{
 };
 use std::io;
 
+// The picture with its boundary tables.
+fn layout() -> Layout<'static> {
+    Layout {
+        picture: picture(),
+        virtual_columns: &VIRTUAL_COLUMNS,
+        virtual_rows: &VIRTUAL_ROWS,
+        tile_columns: &TILES,
+        tile_rows: &TILES,
+        slice_map: &SLICE_MAP,
+        subpic_map: &SUBPIC_MAP,
+        subpic_across: &SUBPIC_ACROSS,
+    }
+}
+
+// What the chroma filter and the cross-component filter are given of the picture.
+fn chroma_input<'a>(bank: &'a [i16], luma: &'a [u16], chroma: &'a [u16]) -> FilterInput<'a> {
+    FilterInput {
+        layout: layout(),
+        slice_params: &SLICE_PARAMS,
+        bank,
+        ctb_params: &CTB_PARAMS,
+        ctb_list: &CTB_LIST,
+        fixed_filters: &[],
+        fixed_map: &[],
+        luma,
+        chroma,
+    }
+}
+
 // The class map of a picture, so many blocks a row.
 pub fn show_classes(
     rt: &impl Print,
     text: &[u8],
-    picture: Picture,
-    virtual_columns: &[u16],
-    virtual_rows: &[u16],
-    tiles: &[u8],
-    slice_map: &[u8],
-    subpic_map: &[u8],
-    subpic_across: &[u8],
+    layout: &Layout,
     luma: &[u16],
     map: &mut [u8],
     columns: usize,
 ) -> io::Result<()> {
-    let answer = alf::classes(
-        picture,
-        virtual_columns,
-        virtual_rows,
-        tiles,
-        tiles,
-        slice_map,
-        subpic_map,
-        subpic_across,
-        luma,
-        map,
-    );
-    print_answer(rt, text, number(answer))?;
+    let answer = alf::classes(layout, luma, map);
+    print_answer(rt, text, number(&answer))?;
     print_map(rt, map, columns)
 }
 
@@ -57,25 +69,19 @@ fn show_luma(
     let mut fixed_map = [0u8; 400];
     fill_fixed_filters(&mut fixed_filters);
     fill_fixed_map(&mut fixed_map);
-    let answer = alf::luma(
-        picture(),
-        &VIRTUAL_COLUMNS,
-        &VIRTUAL_ROWS,
-        &TILES,
-        &TILES,
-        &SLICE_MAP,
-        &SUBPIC_MAP,
-        &SUBPIC_ACROSS,
-        &SLICE_PARAMS,
+    let input = FilterInput {
+        layout: layout(),
+        slice_params: &SLICE_PARAMS,
         bank,
         ctb_params,
-        &CTB_LIST,
-        &fixed_filters,
-        &fixed_map,
+        ctb_list: &CTB_LIST,
+        fixed_filters: &fixed_filters,
+        fixed_map: &fixed_map,
         luma,
-        output,
-    );
-    print_answer(rt, text, number(answer))
+        chroma: &[],
+    };
+    let answer = alf::luma(&input, output);
+    print_answer(rt, text, number(&answer))
 }
 
 // The chroma filter of a component.
@@ -86,24 +92,8 @@ fn show_chroma(
     chroma: &[u16],
     output: &mut [u16],
 ) -> io::Result<()> {
-    let answer = alf::chroma(
-        picture(),
-        &VIRTUAL_COLUMNS,
-        &VIRTUAL_ROWS,
-        &TILES,
-        &TILES,
-        &SLICE_MAP,
-        &SUBPIC_MAP,
-        &SUBPIC_ACROSS,
-        component,
-        &SLICE_PARAMS,
-        bank,
-        &CTB_PARAMS,
-        &CTB_LIST,
-        chroma,
-        output,
-    );
-    print_answer(rt, b" filtered", number(answer))
+    let answer = alf::chroma(component, &chroma_input(bank, &[], chroma), output);
+    print_answer(rt, b" filtered", number(&answer))
 }
 
 // The cross-component filter of a component.
@@ -115,25 +105,8 @@ fn show_corrected(
     chroma: &[u16],
     output: &mut [u16],
 ) -> io::Result<()> {
-    let answer = alf::cross_component(
-        picture(),
-        &VIRTUAL_COLUMNS,
-        &VIRTUAL_ROWS,
-        &TILES,
-        &TILES,
-        &SLICE_MAP,
-        &SUBPIC_MAP,
-        &SUBPIC_ACROSS,
-        component,
-        &SLICE_PARAMS,
-        bank,
-        &CTB_PARAMS,
-        &CTB_LIST,
-        luma,
-        chroma,
-        output,
-    );
-    print_answer(rt, b" corrected from luma", number(answer))
+    let answer = alf::cross_component(component, &chroma_input(bank, luma, chroma), output);
+    print_answer(rt, b" corrected from luma", number(&answer))
 }
 
 // Both filters of a component that is drawn with bars in so many columns.
@@ -161,18 +134,8 @@ fn show_component(
 
 // A region is five rows of five 8 by 8 blocks.
 fn show_isolation(rt: &impl Print, text: &[u8], region: &[u8]) -> io::Result<()> {
-    let answer = alf::isolated(
-        picture(),
-        &VIRTUAL_COLUMNS,
-        &VIRTUAL_ROWS,
-        &TILES,
-        &TILES,
-        &SLICE_MAP,
-        &SUBPIC_MAP,
-        &SUBPIC_ACROSS,
-        region,
-    );
-    print_isolation(rt, text, isolation_number(answer), answer)
+    let answer = alf::isolated(&layout(), region);
+    print_isolation(rt, text, number(&answer), answer)
 }
 
 // Two regions, of which one is isolated.
@@ -222,13 +185,7 @@ pub fn show_picture(rt: &impl Print, bank: &[i16], luma: &[u16], map: &mut [u8])
     show_classes(
         rt,
         b"class:transpose of each 4 by 4 block",
-        picture(),
-        &VIRTUAL_COLUMNS,
-        &VIRTUAL_ROWS,
-        &TILES,
-        &SLICE_MAP,
-        &SUBPIC_MAP,
-        &SUBPIC_ACROSS,
+        &layout(),
         luma,
         map,
         10,

@@ -1,5 +1,5 @@
 // The class map of a picture with four kinds of texture: without boundaries, with a virtual column, and one that is rejected.
-use alf_spec::Picture;
+use alf_spec::Layout;
 use example_pictures::textures::{draw_textures, textured_picture};
 use example_runs::show_classes;
 use std::io;
@@ -8,25 +8,21 @@ use std::io;
 fn show_map(
     rt: &impl Print,
     text: &[u8],
-    picture: Picture,
     virtual_columns: &[u16],
     luma: &[u16],
     map: &mut [u8],
 ) -> io::Result<()> {
-    show_classes(
-        rt,
-        text,
-        picture,
+    let layout = Layout {
+        picture: textured_picture(),
         virtual_columns,
-        &[],
-        &[0; 2],
-        &[0; 4],
-        &[0; 4],
-        &[1; 64],
-        luma,
-        map,
-        16,
-    )
+        virtual_rows: &[],
+        tile_columns: &[0; 2],
+        tile_rows: &[0; 2],
+        slice_map: &[0; 4],
+        subpic_map: &[0; 4],
+        subpic_across: &[1; 64],
+    };
+    show_classes(rt, text, &layout, luma, map, 16)
 }
 
 pub fn show(rt: &impl Print) -> io::Result<()> {
@@ -36,7 +32,6 @@ pub fn show(rt: &impl Print) -> io::Result<()> {
     show_map(
         rt,
         b"class:transpose of each 4 by 4 block: flat, upright bars, slanted bars, level bars",
-        textured_picture(),
         &[],
         &luma,
         &mut map,
@@ -44,7 +39,6 @@ pub fn show(rt: &impl Print) -> io::Result<()> {
     show_map(
         rt,
         b"the same with a virtual column at 24",
-        textured_picture(),
         &[24],
         &luma,
         &mut map,
@@ -52,7 +46,6 @@ pub fn show(rt: &impl Print) -> io::Result<()> {
     show_map(
         rt,
         b"a virtual column at 28 is rejected, and the map stays as it was",
-        textured_picture(),
         &[28],
         &luma,
         &mut map,

@@ -3,17 +3,17 @@ ghost use Rattle.std.specs.Prelude.{◌≤◌, length};
 
 use crate::show_fault;
 use alf::{read_bank, write_bank};
-use alf_bank::{BankRead, BankWritten};
 use alf_print::{print, print_labelled};
+use alf_spec::Fault;
 use std::io;
 
-fn show_answer(rt: &impl Print, answer: BankRead) -> io::Result<()> {
+fn show_answer(rt: &impl Print, answer: Result<u8, Fault>) -> io::Result<()> {
     match answer {
-        BankRead::Read(depth) => {
+        Ok(depth) => {
             print_labelled(rt, b"bit depth ", depth as u32)?;
             print(rt, b"\n")
         }
-        BankRead::Rejected(fault) => show_fault(rt, fault),
+        Err(fault) => show_fault(rt, fault),
     }
 }
 
@@ -27,13 +27,13 @@ fn show_file(rt: &impl Print, text: &[u8], file: &[u8]) -> io::Result<()> {
 }
 
 // What the writer says of a bank at bit depth 10.
-fn show_written(rt: &impl Print, text: &[u8], answer: BankWritten) -> io::Result<()> {
+fn show_written(rt: &impl Print, text: &[u8], answer: Result<u32, Fault>) -> io::Result<()> {
     match answer {
-        BankWritten::Written(length) => {
+        Ok(length) => {
             print_labelled(rt, text, length)?;
             print(rt, b"\n")
         }
-        BankWritten::Rejected(fault) => show_fault(rt, fault),
+        Err(fault) => show_fault(rt, fault),
     }
 }
 

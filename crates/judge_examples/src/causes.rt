@@ -3,23 +3,19 @@
 use crate::show_fault;
 use alf::clip_causes;
 use alf_print::{print, print_cause, print_number};
-use alf_spec::{ClipCauses, Picture, SideCauses};
+use alf_spec::{Layout, Picture, SideCauses};
 use example_pictures::layout::plain;
 use std::io;
 
 // Top, bottom, left, right.
 fn show_sides(rt: &impl Print, causes: SideCauses) -> io::Result<()> {
-    let top = causes.top;
-    let bottom = causes.bottom;
-    let left = causes.left;
-    let right = causes.right;
-    print_cause(rt, top)?;
+    print_cause(rt, causes.top)?;
     print(rt, b"; ")?;
-    print_cause(rt, bottom)?;
+    print_cause(rt, causes.bottom)?;
     print(rt, b"; ")?;
-    print_cause(rt, left)?;
+    print_cause(rt, causes.left)?;
     print(rt, b"; ")?;
-    print_cause(rt, right)?;
+    print_cause(rt, causes.right)?;
     print(rt, b"\n")
 }
 
@@ -29,25 +25,23 @@ fn show_at(rt: &impl Print, x: u32, y: u32) -> io::Result<()> {
     print(rt, b",")?;
     print_number(rt, y)?;
     print(rt, b") -> ")?;
-    let answer = clip_causes(
-        Picture {
+    let layout = Layout {
+        picture: Picture {
             slice_count: 2,
             across_slices: false,
             ..plain(64, 32, 5)
         },
-        &[16],
-        &[],
-        &[0; 2],
-        &[0; 1],
-        &[0, 1],
-        &[0; 2],
-        &[1; 64],
-        x,
-        y,
-    );
-    match answer {
-        ClipCauses::Named(causes) => show_sides(rt, causes),
-        ClipCauses::Rejected(fault) => show_fault(rt, fault),
+        virtual_columns: &[16],
+        virtual_rows: &[],
+        tile_columns: &[0; 2],
+        tile_rows: &[0; 1],
+        slice_map: &[0, 1],
+        subpic_map: &[0; 2],
+        subpic_across: &[1; 64],
+    };
+    match clip_causes(&layout, x, y) {
+        Ok(causes) => show_sides(rt, causes),
+        Err(fault) => show_fault(rt, fault),
     }
 }
 

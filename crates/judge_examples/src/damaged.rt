@@ -3,7 +3,7 @@ ghost use Rattle.std.specs.Prelude.{◌<◌};
 
 use alf::number;
 use alf_print::{print, print_number};
-use alf_spec::{Answer, Filter, Picture};
+use alf_spec::{Fault, Filter, FilterInput, Layout, Picture};
 use alf_validate::{judge_filter, judge_isolation};
 use example_pictures::layout::plain;
 use std::io;
@@ -52,7 +52,7 @@ pub fn judged(
     parameter: u8,
     coefficient: i16,
     entry: u8,
-) -> Answer
+) -> Result<(), Fault>
     requires { at < 8 }
 {
     let columns = [pick(6, first, last, 12, 8) as u16];
@@ -74,47 +74,48 @@ pub fn judged(
     fixed_map[399] = entry;
     let mut luma = [0u16; 1600];
     luma[1599] = pick(12, first, last, 1, 0) as u16 * 255 + 1;
-    judge_filter(
-        Filter::Luma,
-        picture(first, last),
-        &columns,
-        &rows,
-        &tiles,
-        &tiles,
-        &slices,
-        &subpictures,
-        &across,
-        &slice_params,
-        &bank,
-        &ctb_params,
-        &addresses,
-        &fixed_filters,
-        &fixed_map,
-        &luma,
-        &[],
-        1600,
-    )
+    let input = FilterInput {
+        layout: Layout {
+            picture: picture(first, last),
+            virtual_columns: &columns,
+            virtual_rows: &rows,
+            tile_columns: &tiles,
+            tile_rows: &tiles,
+            slice_map: &slices,
+            subpic_map: &subpictures,
+            subpic_across: &across,
+        },
+        slice_params: &slice_params,
+        bank: &bank,
+        ctb_params: &ctb_params,
+        ctb_list: &addresses,
+        fixed_filters: &fixed_filters,
+        fixed_map: &fixed_map,
+        luma: &luma,
+        chroma: &[],
+    };
+    judge_filter(Filter::Luma, &input, 1600)
 }
 
 // Cause 14, of the isolation test: a region whose last number is this.
-fn judged_region(last: u8) -> Answer {
+fn judged_region(last: u8) -> Result<(), Fault> {
     let columns = [8u16];
     let tiles = [0u8; 2];
     let maps = [0u8; 4];
     let across = [1u8; 64];
     let mut region = [0u8; 25];
     region[24] = last;
-    judge_isolation(
-        picture(15, 15),
-        &columns,
-        &columns,
-        &tiles,
-        &tiles,
-        &maps,
-        &maps,
-        &across,
-        &region,
-    )
+    let layout = Layout {
+        picture: picture(15, 15),
+        virtual_columns: &columns,
+        virtual_rows: &columns,
+        tile_columns: &tiles,
+        tile_rows: &tiles,
+        slice_map: &maps,
+        subpic_map: &maps,
+        subpic_across: &across,
+    };
+    judge_isolation(&layout, &region)
 }
 
 // What is answered where this cause alone is broken, and where all from it to 13 are.
@@ -122,9 +123,9 @@ fn show_number(rt: &impl Print, n: u32) -> io::Result<()> {
     print(rt, b"  ")?;
     print_number(rt, n)?;
     print(rt, b" -> ")?;
-    print_number(rt, number(judged(n, n, 0, 0, 0, 0)) as u32)?;
+    print_number(rt, number(&judged(n, n, 0, 0, 0, 0)) as u32)?;
     print(rt, b", ")?;
-    print_number(rt, number(judged(n, 13, 0, 0, 0, 0)) as u32)?;
+    print_number(rt, number(&judged(n, 13, 0, 0, 0, 0)) as u32)?;
     print(rt, b"\n")
 }
 
@@ -140,10 +141,10 @@ fn show_numbers(rt: &impl Print) -> io::Result<()> {
 pub fn show_all(rt: &impl Print) -> io::Result<()> {
     show_numbers(rt)?;
     print(rt, b"  14 -> ")?;
-    print_number(rt, number(judged_region(2)) as u32)?;
+    print_number(rt, number(&judged_region(2)) as u32)?;
     print(rt, b"\n  none -> ")?;
-    print_number(rt, number(judged(15, 15, 0, 0, 0, 0)) as u32)?;
+    print_number(rt, number(&judged(15, 15, 0, 0, 0, 0)) as u32)?;
     print(rt, b", ")?;
-    print_number(rt, number(judged_region(1)) as u32)?;
+    print_number(rt, number(&judged_region(1)) as u32)?;
     print(rt, b"\n")
 }

@@ -7,18 +7,18 @@ mod causes;
 mod damaged;
 mod rows;
 
-use alf::{fault_number, isolated, isolation_number};
+use alf::{fault_number, isolated, number};
 use alf_print::{print, print_number};
-use alf_spec::{Fault, Isolation};
+use alf_spec::{Fault, Layout};
 use example_pictures::layout::plain;
 use std::io;
 
 // What the isolation test answers.
-fn show(rt: &impl Print, answer: Isolation) -> io::Result<()> {
+fn show(rt: &impl Print, answer: Result<bool, Fault>) -> io::Result<()> {
     match answer {
-        Isolation::Isolated => print(rt, b"isolated\n"),
-        Isolation::NotIsolated => print(rt, b"not isolated\n"),
-        Isolation::Rejected(fault) => show_fault(rt, fault),
+        Ok(true) => print(rt, b"isolated\n"),
+        Ok(false) => print(rt, b"not isolated\n"),
+        Err(fault) => show_fault(rt, fault),
     }
 }
 
@@ -33,18 +33,18 @@ fn show_width(rt: &impl Print, width: u32, numbers: &[u8], region: &[u8]) -> io:
     print(rt, b"  ")?;
     print_number(rt, width)?;
     print(rt, b" -> ")?;
-    let answer = isolated(
-        plain(width, 8, 7),
-        &[],
-        &[],
-        numbers,
-        &[0; 1],
-        numbers,
-        numbers,
-        &[1; 64],
-        region,
-    );
-    print_number(rt, isolation_number(answer) as u32)?;
+    let layout = Layout {
+        picture: plain(width, 8, 7),
+        virtual_columns: &[],
+        virtual_rows: &[],
+        tile_columns: numbers,
+        tile_rows: &[0; 1],
+        slice_map: numbers,
+        subpic_map: numbers,
+        subpic_across: &[1; 64],
+    };
+    let answer = isolated(&layout, region);
+    print_number(rt, number(&answer) as u32)?;
     print(rt, b"\n")
 }
 
@@ -53,20 +53,17 @@ fn show_width(rt: &impl Print, width: u32, numbers: &[u8], region: &[u8]) -> io:
 fn show_half(rt: &impl Print, region: &[u8]) -> io::Result<()> {
     let mut subpic_across = [1u8; 64];
     subpic_across[0] = 0;
-    show(
-        rt,
-        isolated(
-            plain(64, 32, 5),
-            &[],
-            &[],
-            &[0; 2],
-            &[0; 1],
-            &[0; 2],
-            &[0, 1],
-            &subpic_across,
-            region,
-        ),
-    )
+    let layout = Layout {
+        picture: plain(64, 32, 5),
+        virtual_columns: &[],
+        virtual_rows: &[],
+        tile_columns: &[0; 2],
+        tile_rows: &[0; 1],
+        slice_map: &[0; 2],
+        subpic_map: &[0, 1],
+        subpic_across: &subpic_across,
+    };
+    show(rt, isolated(&layout, region))
 }
 
 fn main(rt: HostRuntime) -> io::Result<()> {

@@ -4,16 +4,16 @@ ghost use Rattle.std.specs.Prelude.{◌<◌};
 use crate::damaged::judged;
 use alf::number;
 use alf_print::{print, print_number};
-use alf_spec::{Answer, Filter, Picture};
+use alf_spec::{Fault, Filter, FilterInput, Layout, Picture};
 use alf_validate::{judge_filter, judge_isolation};
 use example_pictures::layout::plain;
 use std::io;
 
-fn show_answer(rt: &impl Print, text: &[u8], answer: Answer) -> io::Result<()> {
+fn show_answer(rt: &impl Print, text: &[u8], answer: Result<(), Fault>) -> io::Result<()> {
     print(rt, b"  ")?;
     print(rt, text)?;
     print(rt, b" -> ")?;
-    print_number(rt, number(answer) as u32)?;
+    print_number(rt, number(&answer) as u32)?;
     print(rt, b"\n")
 }
 
@@ -29,21 +29,17 @@ fn show_layout(
     ctbs: &[u8],
     region: &[u8],
 ) -> io::Result<()> {
-    show_answer(
-        rt,
-        text,
-        judge_isolation(
-            plain(width, height, 5),
-            virtual_columns,
-            &[],
-            tile_columns,
-            tile_rows,
-            ctbs,
-            ctbs,
-            &[1; 64],
-            region,
-        ),
-    )
+    let layout = Layout {
+        picture: plain(width, height, 5),
+        virtual_columns,
+        virtual_rows: &[],
+        tile_columns,
+        tile_rows,
+        slice_map: ctbs,
+        subpic_map: ctbs,
+        subpic_across: &[1; 64],
+    };
+    show_answer(rt, text, judge_isolation(&layout, region))
 }
 
 // Five CTBs side by side, with three virtual columns and with a fourth.
@@ -96,33 +92,30 @@ fn show_luma(
 fn show_chroma(rt: &impl Print, text: &[u8], sample: u16) -> io::Result<()> {
     let mut chroma = [0u16; 16];
     chroma[15] = sample;
-    show_answer(
-        rt,
-        text,
-        judge_filter(
-            Filter::Chroma(0),
-            Picture {
+    let input = FilterInput {
+        layout: Layout {
+            picture: Picture {
                 chroma_format: 1,
                 ..plain(8, 8, 5)
             },
-            &[],
-            &[],
-            &[0; 1],
-            &[0; 1],
-            &[0; 1],
-            &[0; 1],
-            &[1; 64],
-            &[0; 11],
-            &[0; 6016],
-            &[0; 8],
-            &[],
-            &[],
-            &[],
-            &[],
-            &chroma,
-            16,
-        ),
-    )
+            virtual_columns: &[],
+            virtual_rows: &[],
+            tile_columns: &[0; 1],
+            tile_rows: &[0; 1],
+            slice_map: &[0; 1],
+            subpic_map: &[0; 1],
+            subpic_across: &[1; 64],
+        },
+        slice_params: &[0; 11],
+        bank: &[0; 6016],
+        ctb_params: &[0; 8],
+        ctb_list: &[],
+        fixed_filters: &[],
+        fixed_map: &[],
+        luma: &[],
+        chroma: &chroma,
+    };
+    show_answer(rt, text, judge_filter(Filter::Chroma(0), &input, 16))
 }
 
 // Of the CTB parameters under chroma mark 0 only the luma flag and the luma set may be other than 0.
