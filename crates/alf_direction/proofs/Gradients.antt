@@ -26,21 +26,6 @@ four_below n a b c d e =
 pub shift_kept : (n k : ℕ) → n < 2 ^ 18 → k ≤ 8 → n * k % 2 ^ 32 ≡ n * k
 shift_kept n k h l = mod-eq_of_lt (omega (arith, mul-le-mul (le_of_lt h) l))
 
--- a gradient of sums below 2^18, with a direction below 4
-pub record Small (g : Gradient) : Type 0 where
-  pub large : g.large < 2 ^ 18
-  pub small : g.small < 2 ^ 18
-  pub direction : g.direction < 4
-
-module _ (a b x y : ℕ) (ha : a < 2 ^ 18) (hb : b < 2 ^ 18) (hx : x < 4) (hy : y < 4) where
-  pub larger-small : Small (larger a b x y)
-  unfolding larger
-  larger-small = pick (ltb b a)
-    where
-      pick : (t : Bool) → Small (cond t (record { large = a; small = b; direction = x }) (record { large = b; small = a; direction = y }))
-      pick true = record { large = ha; small = hb; direction = hx }
-      pick false = record { large = hb; small = ha; direction = hy }
-
 pub strength-small : (g : Gradient) → strength g < 3
 unfolding strength
 strength-small g = pick (ltb (9 * g.small) (g.large * 2)) (ltb (2 * g.small) g.large)

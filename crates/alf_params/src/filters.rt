@@ -1,5 +1,5 @@
 // The numbers of the filter of the CTB at address k, taken from the tables.
-ghost use Rattle.std.specs.Prelude.{◌≡◌, ℕ, ◌+◌, ◌*◌, ◌^◌, ◌≤◌, ◌<◌, pos, nat_abs, length, get_or};
+ghost use Rattle.std.specs.Prelude.{◌≡◌, ◌+◌, ◌*◌, ◌^◌, ◌≤◌, ◌<◌, pos, length};
 ghost use Rattle.alf_lists.specs.Regions.{between};
 ghost use Rattle.alf_lists.specs.Filled.{Filled};
 ghost use Rattle.alf_params.specs.Tables.{ctb_number, SliceTables, FixedTables};
@@ -23,16 +23,11 @@ const CLASSES: usize = 25;
 
 // n numbers of a table from index `from` on, put to the indices from `to` on.
 fn copy_numbers(table: &[i16], from: usize, n: usize, filters: &mut [i16], to: usize)
-    requires { (from + n ≤ length table.now) × (to + n ≤ length filters.old)
-        × ((k : ℕ) → nat_abs (get_or table.now k (pos 0)) ≤ 4096) }
+    requires { (from + n ≤ length table.now) × (to + n ≤ length filters.old) }
     ensures { Filled (pos 0) filters.old (between to n) (copied_from table.now from to)
         filters.new }
 {
-    let mut j: usize = 0;
-    while j < n {
-        filters[to + j] = table[from + j];
-        j += 1;
-    }
+    filters[to..to + n].copy_from_slice(&table[from..from + n]);
 }
 
 // 1 << BitDepth: the clip of the fixed filters, (1456).
@@ -56,12 +51,10 @@ pub fn load_fixed(
         (fixed_number depth set fixed_filters.now fixed_map.now) filters.new }
 {
     let clip = fixed_clip(depth);
-    let mut class: usize = 0;
-    while class < CLASSES {
+    for class in 0..CLASSES {
         let filter = fixed_map[CLASSES * set + class] as usize;
         copy_numbers(fixed_filters, 12 * filter, 12, filters, 24 * class);
         fill(filters, 24 * class + 12, 12, clip);
-        class += 1;
     }
 }
 
