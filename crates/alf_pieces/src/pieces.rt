@@ -86,6 +86,7 @@ pub fn piece_at(axis: CtbAxis, boundaries: &[u16], x: u32) -> Piece
     }
 }
 
+#[tactic(auto, unfolding(crate::specs::Pieces::scaled))]
 // A piece of the luma plane, in the samples of a plane with this ratio to luma: what bounds a piece is a multiple of 4 luma samples.
 pub fn scaled(piece: Piece, ratio: u32) -> Piece
     requires { 0 < ratio }
