@@ -1,6 +1,6 @@
 -- A walk over all pieces of a CTB: what it has passed grows by one piece, and in the end it is the CTB. Assumes nothing.
 use mathlib.Core.Path.{◌≡◌, refl, sym, subst}
-use mathlib.Core.Logic.{◌⊎◌, inl, inr}
+use mathlib.Core.Logic.{inl, inr}
 use mathlib.Core.Bool.{Bool, true, false, ◌||◌, or-false}
 use mathlib.Core.List.{List}
 use Prim.Native.Nat.{ℕ, zero, suc, ◌+◌, ◌-◌, ◌*◌, ◌/◌, ◌≤◌, ◌<◌}
@@ -11,10 +11,9 @@ use Rattle.alf_spec.specs.Lists.{painted}
 use Rattle.alf_lists.specs.Regions.{in_rect}
 use Rattle.alf_lists.proofs.Painted.{paint_is, paint_of, paint_none, paint_call}
 use Rattle.alf_lists.proofs.Regions.{rect_none, rect_beside, rect_stacked}
-use Rattle.alf_pieces.specs.declared.pieces.Piece.{Piece}
 use Rattle.alf_pieces.specs.declared.walks.CtbWalk.{CtbWalk}
 use Rattle.alf_pieces.specs.Pieces.{limit_along}
-use Rattle.alf_pieces.specs.Walks.{Walk, Turn, Axes, StandsAt, Next, beside, below, Follows, in_piece, passed_at, passed}
+use Rattle.alf_pieces.specs.Walks.{Walk, Turn, Axes, StandsAt, beside, below, Follows, in_piece, passed_at, passed}
 
 -- positions in order are, in the samples of a plane, still in order
 div_order : (ratio a b : ℕ) → a ≤ b → a / ratio ≤ b / ratio

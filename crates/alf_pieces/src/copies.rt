@@ -33,8 +33,8 @@ fn position(start: usize, i: usize) -> usize
     (start + i).saturating_sub(3)
 }
 
-#[tactic(auto, unfolding(crate::specs::Copies::row_lowest))]
 // The first column that is read in the plane's row v.
+#[tactic(auto, unfolding(crate::specs::Copies::row_lowest))]
 fn row_lowest(columns: Piece, rows: Piece, sides: Sides, v: usize) -> usize
     ensures { result ≡ row_lowest columns rows sides v }
 {
@@ -45,8 +45,8 @@ fn row_lowest(columns: Piece, rows: Piece, sides: Sides, v: usize) -> usize
     }
 }
 
-#[tactic(auto, unfolding(crate::specs::Copies::row_limit))]
 // The first column that is not read any more in the plane's row v.
+#[tactic(auto, unfolding(crate::specs::Copies::row_limit))]
 fn row_limit(columns: Piece, rows: Piece, sides: Sides, v: usize) -> usize
     ensures { result ≡ row_limit columns rows sides v }
 {
@@ -117,8 +117,8 @@ fn row_of(rows: Piece, j: usize) -> usize
     )
 }
 
-#[tactic(auto, unfolding(crate::specs::Copies::copy_row, crate::specs::Copies::row_range))]
 // What row j of the copy of a piece holds. Past a corner it has its own range of columns.
+#[tactic(auto, unfolding(crate::specs::Copies::copy_row, crate::specs::Copies::row_range))]
 fn row_range(width: usize, columns: Piece, rows: Piece, sides: Sides, j: usize) -> RowRange
     requires { (rows.lowest ≤ rows.start) × (rows.start < rows.limit) × (rows.start + j < 2 ^ 63)
         × (rows.limit * width < 2 ^ 63) }
