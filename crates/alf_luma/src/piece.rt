@@ -95,8 +95,7 @@ fn filter_four(
         (spread_sample_at picture grid.ctb copy.now taps.now left n top t) }
 {
     let width = picture.width as usize;
-    let mut i: usize = 0;
-    while i < 4 {
+    for i in 0..4 {
         let y = top + i;
         let from = y * width + left;
         filter_row(
@@ -111,7 +110,6 @@ fn filter_four(
             from,
             n,
         );
-        i += 1;
     }
 }
 
@@ -138,13 +136,11 @@ fn filter_copy(
 {
     let n = extent(columns);
     let count = extent(rows) / 4;
-    let mut row: usize = 0;
-    while row < count {
+    for row in 0..count {
         let left = columns.start as usize;
         let top = rows.start as usize + 4 * row;
         spread(filters, orders, map, row * BLOCKS, n / 4, taps);
         filter_four(picture, grid, left, n, top, 4 * row, copy, taps, output);
-        row += 1;
     }
 }
 
