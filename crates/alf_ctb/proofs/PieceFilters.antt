@@ -1,7 +1,7 @@
 -- What each filter's function of a piece is given, and what it leaves, under the one name of the filters. Assumes nothing.
 use mathlib.Core.Path.{◌≡◌, refl, sym, ap, subst, ◌∙◌}
 use mathlib.Core.List.{List}
-use Prim.Native.Nat.{ℕ, ◌/◌}
+use Prim.Native.Nat.{ℕ, ◌*◌, ◌/◌, ◌≤◌}
 use native.Mathlib.Nat.{div-one}
 use native.Mathlib.Omega.{arith}
 use lib.IntN.{ℤ}
@@ -21,6 +21,7 @@ use Rattle.alf_spec.proofs.Ratios.{Ratio, whole, half, boundary, chroma_ratios}
 use Rattle.alf_pieces.specs.declared.pieces.Piece.{Piece}
 use Rattle.alf_lists.specs.Regions.{in_rect}
 use Rattle.alf_pieces.specs.Pieces.{scaled, PieceOf, PieceIn, BlockPiece, CtbOf}
+use Rattle.alf_pieces.specs.Copies.{area}
 use Rattle.alf_pieces.proofs.ScaledPieces.{scaled-piece}
 use Rattle.alf_params.specs.Filters.{LumaFilters, ChromaFilter}
 use Rattle.alf_luma.specs.Samples.{LumaPieceInput}
@@ -28,20 +29,18 @@ use Rattle.alf_chroma.specs.Pieces.{ChromaWork, unlined_plane}
 use Rattle.alf_cross.specs.Pieces.{CrossFilter, CrossWork}
 use Rattle.alf_spec.specs.declared.Filter.{Filter}
 use Rattle.alf_spec.specs.declared.Filter.TheVariants.{Luma, Chroma, CrossComponent}
-use Rattle.alf_ctb.specs.FilterWork.{FilterInput, FilterRooms, Numbers, PieceFiltered}
+use Rattle.alf_ctb.specs.FilterWork.{PlanesGiven, FilterRooms, Numbers, PieceFiltered}
 
 -- ---- what they are given
 
-module _ {f : Filter} {p : Picture} {g : Grid} {luma chroma orders : List ℕ} (filters : List ℤ) {taps : List ℤ}
-    {copy differences output : ℕ}
-    (is_input : FilterInput f p g luma chroma orders) (is_numbers : Numbers f filters)
-    (is_rooms : FilterRooms f p copy differences taps output) where
+module _ {f : Filter} {i : Input} {g : Grid} {orders : List ℕ} (filters : List ℤ) {taps : List ℤ} {output : ℕ}
+    (is_input : PlanesGiven f i g orders) (is_numbers : Numbers f filters) (is_rooms : FilterRooms f i.layout.picture taps output) where
   -- by the name that the filter turns out to have
   by_name : {name : Filter} → f ≡ name
-      → FilterInput name p g luma chroma orders × Numbers name filters × FilterRooms name p copy differences taps output
+      → PlanesGiven name i g orders × Numbers name filters × FilterRooms name i.layout.picture taps output
   by_name e = rw (← e) (is_input, is_numbers, is_rooms)
 
-  pub luma_work : f ≡ Luma → LumaPieceInput p g luma filters orders copy differences taps output
+  pub luma_work : f ≡ Luma → LumaPieceInput i.layout.picture g i.luma filters orders taps output
   luma_work e =
       let (given, numbers, rooms) = by_name e in
       record {
@@ -54,12 +53,11 @@ module _ {f : Filter} {p : Picture} {g : Grid} {luma chroma orders : List ℕ} (
         };
         luma_length = given.luma_length refl;
         samples = given.luma refl;
-        copy_room = rooms.copy_room;
-        difference_room = rooms.difference_room;
       }
 
-  pub chroma_work : {component : ℕ} → f ≡ Chroma component → ChromaWork p g chroma filters copy taps output
-  chroma_work e =
+  pub chroma_work : {copy component : ℕ} → f ≡ Chroma component → area ≤ copy
+      → ChromaWork i.layout.picture g i.chroma filters copy taps output
+  chroma_work e room =
       let (given, numbers, rooms) = by_name e in
       record {
         picture = given.picture;
@@ -69,12 +67,13 @@ module _ {f : Filter} {p : Picture} {g : Grid} {luma chroma orders : List ℕ} (
         filter_length = numbers.count;
         coefficients = numbers.coefficients;
         clips = numbers.clips;
-        copy_room = rooms.copy_room;
+        copy_room = room;
         numbers = rooms.spread;
       }
 
-  pub cross_work : {component : ℕ} → f ≡ CrossComponent component → CrossWork p g luma chroma filters copy differences output
-  cross_work e =
+  pub cross_work : {copy split component : ℕ} → f ≡ CrossComponent component → area ≤ copy → 4 * area ≤ split
+      → CrossWork i.layout.picture g i.luma i.chroma filters copy split output
+  cross_work e room more =
       let (given, numbers, rooms) = by_name e in
       record {
         planes = record {
@@ -87,8 +86,8 @@ module _ {f : Filter} {p : Picture} {g : Grid} {luma chroma orders : List ℕ} (
         };
         luma_length = given.luma_length refl;
         luma_samples = given.luma refl;
-        copy_room = rooms.copy_room;
-        split_room = omega (arith, rooms.difference_room);
+        copy_room = room;
+        split_room = omega (arith, more);
       }
 
 -- a piece of whole blocks in the samples of a chroma plane
@@ -99,13 +98,15 @@ scaled_in half b = omega arith
 
 -- ---- what they leave
 
-module _ (f : Filter) (p : Picture) (sides : Sides) (columns rows : Piece) (luma chroma : List ℕ) (filters : List ℤ)
-    (old new : List ℕ) where
+module _ (f : Filter) (own : Input) (sides : Sides) (columns rows : Piece) (filters : List ℤ) (old new : List ℕ) where
+  abbrev p : Picture
+  p = own.layout.picture
+
   -- by its name
   abbrev Named : Filter → Type 0
-  Named f = PieceFiltered f p sides columns rows luma chroma filters old new
+  Named f = PieceFiltered f own sides columns rows filters old new
 
-  pub luma-filtered : f ≡ Luma → ((i : Input) (c : Ctb) → CtbOf i.layout p c sides → i.luma ≡ luma → LumaFilters i c filters
+  pub luma-filtered : f ≡ Luma → ((i : Input) (c : Ctb) → CtbOf i.layout own.layout.picture c sides → i.luma ≡ own.luma → LumaFilters i c filters
       → PieceOf (luma_plane i.layout).columns (column_side i.layout c) c.column columns
       → PieceOf (luma_plane i.layout).rows (row_side i.layout c) c.row rows
       → new ≡ painted old (in_rect p.width columns.start columns.end rows.start rows.end)
@@ -114,15 +115,15 @@ module _ (f : Filter) (p : Picture) (sides : Sides) (columns rows : Piece) (luma
   luma-filtered e h = subst Named (sym e) (λ i c of same other own across down. simp div-one (h i c of same own across down))
 
   pub chroma-filtered : {component : ℕ} → f ≡ Chroma component → BlockPiece p.width columns → BlockPiece p.height rows
-      → {columns' rows' : Piece} → columns' ≡ scaled (sub_width p) columns → rows' ≡ scaled (sub_height p) rows
-      → ((i : Input) (c : Ctb) (component : ℕ) → CtbOf i.layout p c sides → i.chroma ≡ chroma → ChromaFilter i c component filters
+      → (columns' rows' : Piece) → columns' ≡ scaled (sub_width p) columns → rows' ≡ scaled (sub_height p) rows
+      → ((i : Input) (c : Ctb) (component : ℕ) → CtbOf i.layout own.layout.picture c sides → i.chroma ≡ own.chroma → ChromaFilter i c component filters
       → PieceOf (unlined_plane i.layout).columns (column_side i.layout c) c.column columns'
       → PieceOf (unlined_plane i.layout).rows (row_side i.layout c) c.row rows'
       → new ≡ painted old (in_rect (p.width / sub_width p) columns'.start columns'.end rows'.start rows'.end)
       (at_index (chroma_plane i.layout) (chroma_sample i component)))
       → Named f
   unfolding plane_of scaled
-  chroma-filtered {component} e wide high column row h = subst Named (sym e) (λ i c of other same own across down.
+  chroma-filtered {component} e wide high columns' rows' column row h = subst Named (sym e) (λ i c of other same own across down.
       let ratios = chroma_ratios p in
       let l = i.layout in
       let width : sub_width p ≡ sub_width l.picture = ap sub_width (sym of.picture) in
@@ -137,7 +138,7 @@ module _ (f : Filter) (p : Picture) (sides : Sides) (columns rows : Piece) (luma
       (at_index (chroma_plane i.layout) (chroma_sample i component))))
 
   pub cross_filtered : {component : ℕ} → f ≡ CrossComponent component
-      → ((i : Input) (c : Ctb) (component : ℕ) → CtbOf i.layout p c sides → i.luma ≡ luma → i.chroma ≡ chroma
+      → ((i : Input) (c : Ctb) (component : ℕ) → CtbOf i.layout own.layout.picture c sides → i.luma ≡ own.luma → i.chroma ≡ own.chroma
       → CrossFilter i c component filters
       → PieceOf (luma_plane i.layout).columns (column_side i.layout c) c.column columns
       → PieceOf (luma_plane i.layout).rows (row_side i.layout c) c.row rows

@@ -25,13 +25,7 @@ walks Luma = walk_luma
 walks (Chroma component) = walk_none
 walks (CrossComponent component) = walk_luma
 
--- lists of the same lengths
-pub rooms_same : {f : Filter} {p : Picture} {copy copy' differences differences' output output' : ℕ} {taps taps' : List ℤ}
-    → FilterRooms f p copy differences taps output → copy' ≡ copy → differences' ≡ differences → TapNumbers taps' → output' ≡ output
-    → FilterRooms f p copy' differences' taps' output'
-rooms_same rooms c d taps o = record {
-  copy_room = rw c rooms.copy_room;
-  difference_room = rw d rooms.difference_room;
-  spread = taps;
-  output_length = o ∙ rooms.output_length;
-}
+-- another turn: the numbers stay in their ranges, and the output keeps its length
+pub rooms_same : {f : Filter} {p : Picture} {output output' : ℕ} {taps taps' : List ℤ}
+    → FilterRooms f p taps output → TapNumbers taps' → output' ≡ output → FilterRooms f p taps' output'
+rooms_same rooms taps o = record { spread = taps; output_length = o ∙ rooms.output_length }

@@ -1,14 +1,14 @@
 // A CTB, filtered, a piece at a time.
 ghost use Rattle.std.specs.Prelude.{◌≡◌, length};
-ghost use Rattle.alf_pieces.specs.Walks.{Along};
+ghost use Rattle.alf_pieces.specs.Walks.{AlongAxes};
 ghost use Rattle.alf_taps.specs.Spread.{TapNumbers};
 ghost use Rattle.alf_ctb.specs.Filters.{walk_line};
-ghost use Rattle.alf_ctb.specs.FilterWork.{FilterInput, FilterRooms, Numbers, AxesFiltered, in_filtered};
+ghost use Rattle.alf_ctb.specs.FilterWork.{PlanesGiven, FilterRooms, Numbers, AxesFiltered, in_filtered};
 
 use crate::pieces::filter_piece;
-use alf_boundary::clips::CtbAxis;
-use alf_pieces::walks::{first_piece, next_piece};
-use alf_spec::{Filter, Grid, Picture, Sides};
+use alf_luma::Rooms;
+use alf_pieces::walks::{CtbAxes, first_piece, next_piece};
+use alf_spec::{Filter, FilterInput, Grid, Sides};
 
 // How far above a CTB's bottom the line lies at which its pieces end, in luma rows. For chroma they go on over it: no tap of the chroma
 // filter reads across its own line.
@@ -25,50 +25,35 @@ pub fn walk_line(filter: Filter) -> u32
 // The samples of the CTB through which these axes go. The line of the axis of rows is the filter's `walk_line`.
 pub fn filter_ctb(
     filter: Filter,
-    picture: Picture,
+    input: &FilterInput,
     grid: Grid,
     sides: Sides,
-    columns: CtbAxis,
-    virtual_columns: &[u16],
-    rows: CtbAxis,
-    virtual_rows: &[u16],
-    luma: &[u16],
-    chroma: &[u16],
+    axes: &CtbAxes,
     filters: &[i16],
     orders: &[u8],
-    copy: &mut [u16],
-    differences: &mut [u16],
-    taps: &mut [i16],
+    rooms: &mut Rooms,
     output: &mut [u16],
 )
-    requires { (FilterInput filter picture grid luma.now chroma.now orders.now) × (Numbers filter filters.now)
-        × (FilterRooms filter picture (length copy.old) (length differences.old) taps.old (length output.old))
-        × (Along columns virtual_columns.now) × (columns.size ≡ picture.width) × (Along rows virtual_rows.now)
-        × (rows.size ≡ picture.height) }
-    ensures { (AxesFiltered filter picture sides columns virtual_columns.now rows virtual_rows.now
-        luma.now chroma.now filters.now (in_filtered filter picture columns rows) output.old
-        output.new) × (TapNumbers taps.new) }
+    requires { let picture = input.now.layout.picture in (PlanesGiven filter input.now grid orders.now) × (Numbers filter filters.now)
+        × (FilterRooms filter picture rooms.old.taps (length output.old))
+        × (AlongAxes axes.now) × (axes.now.columns.size ≡ picture.width) × (axes.now.rows.size ≡ picture.height) }
+    ensures { (AxesFiltered filter input.now sides axes.now filters.now (in_filtered filter input.now.layout.picture axes.now)
+        output.old output.new) × (TapNumbers rooms.new.taps) }
 {
-    let mut at = first_piece(columns, virtual_columns, rows, virtual_rows);
-    while at.there {
-        let across = at.columns;
-        let down = at.rows;
+    let mut at = Some(first_piece(axes));
+    while let Some(piece) = at {
         filter_piece(
             filter,
-            picture,
+            input,
             grid,
             sides,
-            across,
-            down,
-            luma,
-            chroma,
+            piece.columns,
+            piece.rows,
             filters,
             orders,
-            copy,
-            differences,
-            taps,
+            rooms,
             output,
         );
-        at = next_piece(columns, virtual_columns, rows, virtual_rows, at);
+        at = next_piece(axes, piece);
     }
 }

@@ -2,51 +2,38 @@
 ghost use Rattle.std.specs.Prelude.{length};
 ghost use Rattle.alf_pieces.specs.Pieces.{BlockPiece};
 ghost use Rattle.alf_taps.specs.Spread.{TapNumbers};
-ghost use Rattle.alf_ctb.specs.FilterWork.{FilterInput, FilterRooms, Numbers, PieceFiltered};
+ghost use Rattle.alf_ctb.specs.FilterWork.{PlanesGiven, FilterRooms, Numbers, PieceFiltered};
 
+use alf_luma::Rooms;
 use alf_math::grid::{sub_height, sub_width};
 use alf_pieces::pieces::{Piece, scaled};
-use alf_spec::{Filter, Grid, Picture, Sides};
+use alf_spec::{Filter, FilterInput, Grid, Sides};
 
 // The samples of a piece of the luma plane, or the chroma samples that lie in it, by the filter: those of every input in which a CTB has
 // these sides and this filter's numbers, and the piece is one of its pieces.
 pub fn filter_piece(
     filter: Filter,
-    picture: Picture,
+    input: &FilterInput,
     grid: Grid,
     sides: Sides,
     columns: Piece,
     rows: Piece,
-    luma: &[u16],
-    chroma: &[u16],
     filters: &[i16],
     orders: &[u8],
-    copy: &mut [u16],
-    differences: &mut [u16],
-    taps: &mut [i16],
+    rooms: &mut Rooms,
     output: &mut [u16],
 )
-    requires { (FilterInput filter picture grid luma.now chroma.now orders.now) × (Numbers filter filters.now)
-        × (FilterRooms filter picture (length copy.old) (length differences.old) taps.old (length output.old))
+    requires { let picture = input.now.layout.picture in (PlanesGiven filter input.now grid orders.now) × (Numbers filter filters.now)
+        × (FilterRooms filter picture rooms.old.taps (length output.old))
         × (BlockPiece picture.width columns) × (BlockPiece picture.height rows) }
-    ensures { (PieceFiltered filter picture sides columns rows luma.now chroma.now filters.now
-        output.old output.new) × (TapNumbers taps.new) }
+    ensures { (PieceFiltered filter input.now sides columns rows filters.now output.old output.new)
+        × (TapNumbers rooms.new.taps) }
 {
+    let picture = input.layout.picture;
     match filter {
         Filter::Luma => {
             alf_luma::filter_piece(
-                picture,
-                grid,
-                sides,
-                columns,
-                rows,
-                luma,
-                filters,
-                orders,
-                copy,
-                differences,
-                taps,
-                output,
+                picture, grid, sides, columns, rows, input.luma, filters, orders, rooms, output,
             );
         }
         Filter::Chroma(_) => {
@@ -56,10 +43,10 @@ pub fn filter_piece(
                 sides,
                 scaled(columns, sub_width(picture)),
                 scaled(rows, sub_height(picture)),
-                chroma,
+                input.chroma,
                 filters,
-                copy,
-                taps,
+                &mut rooms.copy,
+                &mut rooms.taps,
                 output,
             );
         }
@@ -71,11 +58,11 @@ pub fn filter_piece(
                 sides,
                 columns,
                 rows,
-                luma,
-                chroma,
+                input.luma,
+                input.chroma,
                 filters,
-                copy,
-                differences,
+                &mut rooms.copy,
+                &mut rooms.differences,
                 output,
             );
         }

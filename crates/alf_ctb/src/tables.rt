@@ -12,59 +12,52 @@ use alf_params::{
     FIXED_SETS, chroma_on, chroma_run, cross_on, cross_run, load_fixed, load_from_aps, luma_on,
     luma_run, luma_set,
 };
-use alf_spec::Filter;
+use alf_spec::{Filter, FilterInput};
 
 // The flag or index of the CTB at address k.
-pub fn is_on(filter: Filter, ctb_params: &[u8], k: usize) -> bool
-    requires { (ComponentOf filter) × (8 * k + 8 ≤ length ctb_params.now) }
-    ensures { (i : Input) (c : Ctb) → i.ctb_params ≡ ctb_params.now → address i.layout c ≡ k
+pub fn is_on(filter: Filter, input: &FilterInput, k: usize) -> bool
+    requires { (ComponentOf filter) × (8 * k + 8 ≤ length input.now.ctb_params) }
+    ensures { (i : Input) (c : Ctb) → i.ctb_params ≡ input.now.ctb_params → address i.layout c ≡ k
         → result ≡ is_on filter i c }
 {
     match filter {
-        Filter::Luma => luma_on(ctb_params, k),
-        Filter::Chroma(component) => chroma_on(ctb_params, component, k),
-        Filter::CrossComponent(component) => cross_on(ctb_params, component, k),
+        Filter::Luma => luma_on(input.ctb_params, k),
+        Filter::Chroma(component) => chroma_on(input.ctb_params, component, k),
+        Filter::CrossComponent(component) => cross_on(input.ctb_params, component, k),
     }
 }
 
 // The numbers of its filter.
-pub fn load(
-    filter: Filter,
-    depth: u32,
-    k: usize,
-    slice_map: &[u8],
-    slice_params: &[u8],
-    bank: &[i16],
-    ctb_params: &[u8],
-    fixed_filters: &[i16],
-    fixed_map: &[u8],
-    filters: &mut [i16],
-)
-    requires { (ComponentOf filter) × (CtbTables slice_map.now slice_params.now bank.now ctb_params.now k)
-        × (FixedGiven filter depth fixed_filters.now fixed_map.now) × (Switched filter ctb_params.now k)
+pub fn load(filter: Filter, input: &FilterInput, k: usize, filters: &mut [i16])
+    requires { let i = input.now in (ComponentOf filter)
+        × (CtbTables i.layout.slice_map i.slice_params i.bank i.ctb_params k)
+        × (FixedGiven filter i.layout.picture.bit_depth i.fixed_filters i.fixed_map) × (Switched filter i.ctb_params k)
         × (length filters.old ≡ 600)
         × ((j : ℕ) → get_or filters.old j (pos 0) ≡ pos 0) }
-    ensures { (Numbers filter filters.new) × ((i : Input) (c : Ctb)
-        → TablesGiven i c slice_map.now slice_params.now bank.now ctb_params.now k
-        → FixedSame filter i depth fixed_filters.now fixed_map.now
+    ensures { let own = input.now in (Numbers filter filters.new) × ((i : Input) (c : Ctb)
+        → TablesGiven i c own.layout.slice_map own.slice_params own.bank own.ctb_params k
+        → FixedSame filter i own.layout.picture.bit_depth own.fixed_filters own.fixed_map
         → OwnFilter filter i c filters.new) }
 {
+    let slice_map = input.layout.slice_map;
     match filter {
         Filter::Luma => {
-            let set = luma_set(k, ctb_params);
+            let set = luma_set(k, input.ctb_params);
             if set < FIXED_SETS {
-                load_fixed(depth, set, fixed_filters, fixed_map, filters);
+                let depth = input.layout.picture.bit_depth as u32;
+                load_fixed(depth, set, input.fixed_filters, input.fixed_map, filters);
             } else {
-                load_from_aps(luma_run(set), k, slice_map, slice_params, bank, filters);
+                let run = luma_run(set);
+                load_from_aps(run, k, slice_map, input.slice_params, input.bank, filters);
             }
         }
         Filter::Chroma(component) => {
-            let run = chroma_run(component, k, ctb_params);
-            load_from_aps(run, k, slice_map, slice_params, bank, filters);
+            let run = chroma_run(component, k, input.ctb_params);
+            load_from_aps(run, k, slice_map, input.slice_params, input.bank, filters);
         }
         Filter::CrossComponent(component) => {
-            let run = cross_run(component, k, ctb_params);
-            load_from_aps(run, k, slice_map, slice_params, bank, filters);
+            let run = cross_run(component, k, input.ctb_params);
+            load_from_aps(run, k, slice_map, input.slice_params, input.bank, filters);
         }
     }
 }

@@ -72,9 +72,7 @@ pub(crate) fn luma_row(
     ensures { output.new ≡ painted output.old (between from n)
         (row_from depth shift copy.now taps.now s from) }
 {
-    let mut x: usize = 0;
-    while x < n {
+    for x in 0..n {
         output[from + x] = luma_at(copy, x, s, taps, shift, depth);
-        x += 1;
     }
 }

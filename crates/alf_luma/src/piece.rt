@@ -20,10 +20,11 @@ use crate::kernel::{Starts, luma_row};
 use crate::rows::luma_rows;
 use crate::spread::spread;
 use alf_boundary::clips::line_rule;
-use alf_classify::piece_classes;
+use alf_classify::{AREA, piece_classes};
 use alf_pieces::copies::{copy_piece, extent};
 use alf_pieces::pieces::Piece;
 use alf_spec::{Grid, LumaRows, Picture, Sides};
+use alf_taps::SPREAD;
 
 // A piece has at most 32 by 32 blocks.
 const BLOCKS: usize = 32;
@@ -95,8 +96,7 @@ fn filter_four(
         (spread_sample_at picture grid.ctb copy.now taps.now left n top t) }
 {
     let width = picture.width as usize;
-    let mut i: usize = 0;
-    while i < 4 {
+    for i in 0..4 {
         let y = top + i;
         let from = y * width + left;
         filter_row(
@@ -111,7 +111,6 @@ fn filter_four(
             from,
             n,
         );
-        i += 1;
     }
 }
 
@@ -138,14 +137,21 @@ fn filter_copy(
 {
     let n = extent(columns);
     let count = extent(rows) / 4;
-    let mut row: usize = 0;
-    while row < count {
+    for row in 0..count {
         let left = columns.start as usize;
         let top = rows.start as usize + 4 * row;
         spread(filters, orders, map, row * BLOCKS, n / 4, taps);
         filter_four(picture, grid, left, n, top, 4 * row, copy, taps, output);
-        row += 1;
     }
+}
+
+// What a filter works in from one piece to the next: the copy of a piece, its second differences, and the numbers of filters, spread over
+// columns.
+#[derive(Drop)]
+pub struct Rooms {
+    pub copy: [u16; AREA],
+    pub differences: [u16; 4 * AREA],
+    pub taps: [i16; SPREAD],
 }
 
 // The samples of a piece, filtered: those of every input in which a CTB has these sides and these filters, and the piece is one of its
@@ -159,14 +165,10 @@ pub fn filter_piece(
     luma: &[u16],
     filters: &[i16],
     orders: &[u8],
-    copy: &mut [u16],
-    differences: &mut [u16],
-    taps: &mut [i16],
+    rooms: &mut Rooms,
     output: &mut [u16],
 )
-    requires { (LumaPieceInput picture grid luma.now filters.now orders.now (length copy.old)
-        (length differences.old) taps.old
-        (length output.old))
+    requires { (LumaPieceInput picture grid luma.now filters.now orders.now rooms.old.taps (length output.old))
         × (BlockPiece picture.width columns) × (BlockPiece picture.height rows) }
     ensures { ((i : Input) (c : Ctb) → CtbOf i.layout picture c sides → i.luma ≡ luma.now
         → LumaFilters i c filters.now
@@ -174,23 +176,33 @@ pub fn filter_piece(
         → PieceOf (luma_plane i.layout).rows (row_side i.layout c) c.row rows
         → output.new ≡ painted output.old
         (in_rect picture.width columns.start columns.end rows.start rows.end)
-        (at_index (luma_plane i.layout) (luma_sample i))) × (TapNumbers taps.new) }
+        (at_index (luma_plane i.layout) (luma_sample i))) × (TapNumbers rooms.new.taps) }
 {
-    copy_piece(luma, picture.width as usize, columns, rows, sides, copy);
+    let width = picture.width as usize;
+    copy_piece(luma, width, columns, rows, sides, &mut rooms.copy);
     let mut map: [u8; 1024] = [0; 1024];
     piece_classes(
         picture,
         grid,
         columns,
         rows,
-        copy,
-        differences,
+        &rooms.copy,
+        &mut rooms.differences,
         &mut map,
         BLOCKS,
         0,
         0,
     );
     filter_copy(
-        picture, grid, columns, rows, filters, orders, &map, copy, taps, output,
+        picture,
+        grid,
+        columns,
+        rows,
+        filters,
+        orders,
+        &map,
+        &rooms.copy,
+        &mut rooms.taps,
+        output,
     );
 }

@@ -17,6 +17,7 @@ const NUMBERS: usize = 24;
 pub const ORDERS: usize = 96;
 
 // Which of a filter's numbers is number j in the order of a transpose.
+#[tactic(auto, unfolding(crate::specs::SpreadFilters::tap_index))]
 fn tap_index(transpose: usize, j: usize) -> usize
     requires { (transpose < 4) × (j < 24) }
     ensures { (result ≡ tap_index transpose j) × (result < 24) }
@@ -33,10 +34,8 @@ pub fn tap_orders(orders: &mut [u8])
     requires { length orders.old ≡ 96 }
     ensures { TapOrders orders.new }
 {
-    let mut k: usize = 0;
-    while k < ORDERS {
+    for k in 0..ORDERS {
         orders[k] = tap_index(k / NUMBERS, k % NUMBERS) as u8;
-        k += 1;
     }
 }
 
@@ -47,11 +46,9 @@ fn put_filter(filters: &[i16], from: usize, orders: &[u8], at: usize, taps: &mut
     ensures { Filled (pos 0) taps.old (in_rect 128 to (to + 4) 0 24)
         (number_from filters.now from orders.now at) taps.new }
 {
-    let mut j: usize = 0;
-    while j < NUMBERS {
+    for j in 0..NUMBERS {
         let index = orders[at + j] as usize;
         fill(taps, j * COLUMNS + to, 4, filters[from + index]);
-        j += 1;
     }
 }
 
@@ -89,9 +86,7 @@ pub(crate) fn spread(
     ensures { Filled (pos 0) taps.old (in_rect 128 0 (4 * count) 0 24)
         (spread_from filters.now orders.now map.now at) taps.new }
 {
-    let mut b: usize = 0;
-    while b < count {
+    for b in 0..count {
         put_class(filters, orders, map[at + b], taps, 4 * b);
-        b += 1;
     }
 }
