@@ -1,14 +1,10 @@
 -- How a bank file is read, and when it is refused (02, card 2). A field is given by the bytes from its tag to the end of the file; where
 -- those end too early, missing bytes read as 0, and the field is cut short. Assumes nothing.
 use Rattle.std.specs.Prelude.{Bool, true, false, not, ◌&&◌, ◌||◌, cond, List, [], ◌∷◌, ◌++◌, ℕ, zero, suc, ◌+◌, ◌-◌, ◌*◌, ◌^◌, eqb, leb, ltb, ℤ, pos, negsuc, length, get_or, drop, replicate}
-use Rattle.std.proofs.Math.Option.{Option, some, none}
 use Rattle.alf_spec.specs.Lists.{implies, all_below}
 use Rattle.alf_spec.specs.Faults.{unless, depth_valid}
-use Rattle.alf_spec.specs.Answers.{fault_number}
 use Rattle.alf_lists.specs.Overwrite.{overwrite}
 use Rattle.alf_bank.specs.declared.FilterId.{FilterId}
-use Rattle.alf_bank.specs.declared.BankRead.{BankRead}
-use Rattle.alf_bank.specs.declared.BankRead.TheVariants.{Read, Rejected}
 use Rattle.alf_bank.specs.Filters.{table, by_tag, shape_of, size_of, order_of, id_valid, start_of}
 
 -- ---- a field
@@ -139,15 +135,6 @@ read_bank file = filled (replicate 6016 (pos 0)) (fields (drop 4 file) 0)
 
 -- ---- the reader's answer
 
--- its number, 0 where it accepts; a bank of wrong length is judged "before any field"
+-- its number, 0 where it accepts (`number_of` of the reader's Result; the depth that it returns is `answer_of`); a bank of wrong length is judged "before any field"
 unfoldable pub read_fault : List ℕ → ℕ → ℕ
 read_fault file bank_length = unless (eqb bank_length 6016) 5 (fields_fault (fields file 0))
-
-abbrev pub read_number : BankRead → ℕ
-read_number (Read depth) = 0
-read_number (Rejected f) = fault_number f
-
--- the depth that is returned: none where it rejects
-abbrev pub depth_read : BankRead → Option ℕ
-depth_read (Read depth) = some depth
-depth_read (Rejected f) = none

@@ -1,12 +1,8 @@
 -- The file that the writer makes of a bank at a bit depth, and when it refuses (02, card 2). Assumes nothing.
 use Rattle.std.specs.Prelude.{Bool, ◌&&◌, cond, List, [], ◌∷◌, ◌++◌, ℕ, zero, suc, ◌+◌, ◌-◌, ◌/◌, ◌%◌, eqb, leb, ℤ, pos, negsuc, nat_abs, length, get_or}
-use Rattle.std.proofs.Math.Option.{Option, some, none}
 use Rattle.alf_spec.specs.Lists.{all_below}
 use Rattle.alf_spec.specs.Faults.{unless, depth_valid, bank_numbers_valid}
-use Rattle.alf_spec.specs.Answers.{fault_number}
 use Rattle.alf_bank.specs.declared.FilterId.{FilterId}
-use Rattle.alf_bank.specs.declared.BankWritten.{BankWritten}
-use Rattle.alf_bank.specs.declared.BankWritten.TheVariants.{Written, Rejected}
 use Rattle.alf_bank.specs.Filters.{table, shape_of, size_of, count_of, filter_at, leads_of, start_of}
 
 -- "a coefficient is one byte in two's complement"
@@ -58,12 +54,3 @@ write_fault depth bank room =
     unless (depth_valid depth) 3
     (unless (eqb (length bank) 6016 && leb 10508 room) 5
     (unless (bank_numbers_valid depth bank) 11 0))
-
-abbrev pub write_number : BankWritten → ℕ
-write_number (Written n) = 0
-write_number (Rejected f) = fault_number f
-
--- the length that is returned: none where it rejects
-abbrev pub length_written : BankWritten → Option ℕ
-length_written (Written n) = some n
-length_written (Rejected f) = none

@@ -4,13 +4,13 @@
 
 pub mod filters;
 
-use alf_spec::Fault;
-
 // A filter of a bank, as a field names it: the field's tag, and the leading numbers of its value. The component is 0 but for tag 4.
 #[derive(Clone, Copy)]
 pub struct FilterId {
+    // stays a number: it is a byte of the file, and what a field of another tag would be is asked before the tag is refused
     pub tag: u8,
     pub aps: u8,
+    // stays a number: it is a byte of the file, and is asked of a field before it is refused (id_valid)
     pub component: u8,
     pub filter: u8,
 }
@@ -21,18 +21,4 @@ pub struct FilterShape {
     pub leads: usize,
     pub coeffs: usize,
     pub clips: usize,
-}
-
-// The writer's answer: the length written, or the lowest fault.
-#[derive(Clone, Copy)]
-pub enum BankWritten {
-    Written(u32),
-    Rejected(Fault),
-}
-
-// The reader's answer: the bit depth, or the lowest fault of the first faulty field.
-#[derive(Clone, Copy)]
-pub enum BankRead {
-    Read(u8),
-    Rejected(Fault),
 }

@@ -1,5 +1,5 @@
 -- The search among the cross-component filters of a bank, and what it says of all of them. Assumes nothing.
-use mathlib.Core.Path.{◌≡◌, refl, sym, ◌∙◌, subst}
+use mathlib.Core.Path.{◌≡◌, refl, sym, ◌∙◌, ap, subst}
 use mathlib.Core.Bool.{Bool, true, false, not, cond}
 use mathlib.Core.List.{List}
 use mathlib.Core.Logic.{⊎_elim}
@@ -7,30 +7,22 @@ use Prim.Native.Nat.{ℕ, zero, suc, ◌+◌, ◌-◌, ◌*◌, ◌/◌, ◌%◌
 use native.Mathlib.Nat.{le_refl, eq-or-lt_of_le}
 use native.Mathlib.Numerals.{add-one}
 use native.Mathlib.Omega.{arith}
-use borrow.Author.Tests.{not-true, not-false, leb-true, le-leb, ltb-true, lt-ltb, le-ltb}
+use borrow.Author.Tests.{not-true, not-false, leb-true, le-leb, lt-leb, ltb-true, ltb-false, lt-ltb, le-ltb}
 use lib.Dec.{leb, ltb}
 use lib.IntN.{ℤ}
+use Rattle.std.specs.List.{find, range_with_len}
+use Rattle.std.specs.Option.{is_none}
 use Rattle.alf_spec.specs.Lists.{all_below}
 use Rattle.alf_spec.specs.Parameters.{cross_number}
 use Rattle.alf_spec.specs.Faults.{cross_filter_valid, cross_filters_valid}
 use Rattle.alf_spec.proofs.Tests.{same_test, cond_either, all_at, at_all}
-use Rattle.alf_cross_coeffs.specs.declared.CrossFilter.{CrossFilter}
-use Rattle.alf_cross_coeffs.specs.declared.Offender.TheVariants.{Found, Nothing}
-use Rattle.alf_cross_coeffs.specs.Offenders.{cross_filter_at, valid_at, first_offender, next_offender, offender_at}
+use Rattle.std.specs.Prelude.{Option, Some, None}
+use Rattle.alf_cross_coeffs.specs.declared.Offender.{Offender}
+use Rattle.alf_cross_coeffs.specs.Offenders.{cross_filter_at, valid_at, first_offender, next_offender, found_at, offender_at}
 
 -- where coefficient j of the filter at place n stands in the bank
 pub place_of : (n j : ℕ) → 752 * (n / 8) + (696 + 7 * (n % 8)) + j ≡ 752 * (n / 8) + cross_number (n % 8 / 4) (n % 4) j
 place_of n j = omega arith
-
--- ---- the answer of a search that ends at place n
-
-pub at_offender : {n place : ℕ} → n ≡ place → n < 64 → Found (cross_filter_at n) (n + 1) ≡ offender_at place
-unfolding offender_at
-at_offender {n} e h = rw (← e, lt-ltb n 64 h, add-one)
-
-pub at_none : {n place : ℕ} → n ≡ place → 64 ≤ n → Nothing ≡ offender_at place
-unfolding offender_at
-at_none {n} e h = rw (← e, le-ltb n 64 h)
 
 module _ (bank : List ℤ) where
   -- ---- one step of the search
@@ -53,6 +45,21 @@ module _ (bank : List ℤ) where
   unfolding first_offender
   search_end k h = let e : 64 - k ≡ 0 = omega arith in rw e
 
+  -- the chain over the n places that are left finds where it stops
+  search_find : (n k : ℕ) → n ≡ 64 - k → find (λ m. not (valid_at bank m)) (range_with_len k n) ≡ found_at (first_offender bank n k)
+  unfolding first_offender
+  search_find zero k e = rw (le-ltb k 64 (omega arith))
+  search_find (suc n) k e = by_test (valid_at bank k) refl (search_find n (suc k) (omega arith))
+    where
+      by_test : (t : Bool) → valid_at bank k ≡ t
+          → find (λ m. not (valid_at bank m)) (range_with_len (suc k) n) ≡ found_at (first_offender bank n (suc k))
+          → find (λ m. not (valid_at bank m)) (range_with_len k (suc n)) ≡ found_at (first_offender bank (suc n) k)
+      by_test true q on = rw (q, add-one) on
+      by_test false q on = rw (q, lt-ltb k 64 (omega arith))
+
+  pub search_found : (k : ℕ) → find (λ m. not (valid_at bank m)) (range_with_len k (64 - k)) ≡ found_at (next_offender bank k)
+  search_found k = search_find (64 - k) k refl
+
   -- it never goes back
   search_forward : (n k : ℕ) → k ≤ first_offender bank n k
   unfolding first_offender
@@ -61,17 +68,18 @@ module _ (bank : List ℤ) where
       cond_either (λ (m : ℕ). k ≤ m) (valid_at bank k) _ _ (omega (arith, search_forward n (suc k))) (le_refl k)
 
   -- what is found comes with a place farther on, at most that behind the last filter
-  pub found_farther : (k : ℕ) {f : CrossFilter} {next : ℕ} → offender_at (next_offender bank k) ≡ Found f next → (k < next) × (next ≤ 64)
+  pub found_farther : (k : ℕ) {o : Offender} → offender_at (next_offender bank k) ≡ Some o → (k < o.next) × (o.next ≤ 64)
   unfolding offender_at
-  found_farther k {f} {next} e = by_test (ltb (next_offender bank k) 64) refl
+  found_farther k {o} e = by_test (ltb (next_offender bank k) 64) refl
     where
-      by_test : (t : Bool) → ltb (next_offender bank k) 64 ≡ t → (k < next) × (next ≤ 64)
+      by_test : (t : Bool) → ltb (next_offender bank k) 64 ≡ t → (k < o.next) × (o.next ≤ 64)
       by_test true q =
           let below = ltb-true (next_offender bank k) 64 q in
-          let found : Found (cross_filter_at (next_offender bank k)) (suc (next_offender bank k)) ≡ Found f next = rw q at e in
-          let same : suc (next_offender bank k) ≡ next = cc in
+          let found : Some (record { filter = cross_filter_at (next_offender bank k); next = suc (next_offender bank k) }) ≡ Some o = rw q at e in
+          let same : record { filter = cross_filter_at (next_offender bank k); next = suc (next_offender bank k) } ≡ o = cc in
+          let next : suc (next_offender bank k) ≡ o.next = ap (λ (o : Offender). o.next) same in
           (omega (arith, search_forward (64 - k) k), omega arith)
-      by_test false q = let none : Nothing ≡ Found f next = rw q at e in let no : ◌≡◌ {A = ℕ} 0 1 = cc in absurd (omega arith)
+      by_test false q = let none : ◌≡◌ {A = Option Offender} None (Some o) = rw q at e in absurd (cc)
 
   -- ---- all places
 
@@ -118,3 +126,11 @@ module _ (bank : List ℤ) where
       (λ e. at_all 64 _ (λ m h. passed 64 0 (leb-true 64 (next_offender bank 0) e) m (omega arith) h))
       (λ e. le-leb 64 _ (passes 64 0 (λ m a b. all_at 64 _ e m b)))
       ∙ places
+
+  -- it finds nothing there exactly where every filter passes
+  pub search_none : is_none (found_at (next_offender bank 0)) ≡ cross_filters_valid bank
+  search_none = by_test (ltb (next_offender bank 0) 64) refl
+    where
+      by_test : (t : Bool) → ltb (next_offender bank 0) 64 ≡ t → is_none (found_at (next_offender bank 0)) ≡ cross_filters_valid bank
+      by_test true e = rw e (sym (lt-leb 64 (next_offender bank 0) (ltb-true _ 64 e)) ∙ search_all)
+      by_test false e = rw e (sym (le-leb 64 (next_offender bank 0) (ltb-false _ 64 e)) ∙ search_all)

@@ -14,9 +14,9 @@ pub struct CrossFilter {
     pub filter: u8,
 }
 
-// What a search among a bank's cross-component filters finds: the filter with the place behind it, or nothing.
+// A cross-component filter with a coefficient that H.266 can't send, and the place behind it, from which a search goes on.
 #[derive(Clone, Copy)]
-pub enum Offender {
-    Found { filter: CrossFilter, next: usize },
-    Nothing,
+pub struct Offender {
+    pub filter: CrossFilter,
+    pub next: usize,
 }

@@ -1,7 +1,7 @@
 // The cross-component filters of a bank, in the order of a bank file: 64 of them, eight an APS, Cb's before Cr's.
 ghost use Rattle.std.specs.Prelude.{◌≡◌, ◌<◌, pos, get_or};
 ghost use Rattle.alf_spec.specs.Faults.{cross_filters_valid};
-ghost use Rattle.alf_cross_coeffs.specs.Offenders.{cross_filter_at, valid_at, next_offender, offender_at};
+ghost use Rattle.alf_cross_coeffs.specs.Offenders.{cross_filter_at, valid_at, next_offender, found_at, offender_at};
 
 use crate::coefficients::cross_coeff_valid;
 use crate::{CrossFilter, Offender};
@@ -10,47 +10,31 @@ use crate::{CrossFilter, Offender};
 fn number_at(bank: &[i16], k: usize) -> i16
     ensures { result ≡ get_or bank.now k (pos 0) }
 {
-    if k < bank.len() {
-        return bank[k];
-    }
-    0
+    bank.get(k).copied().unwrap_or(0)
 }
 
 // Whether H.266 can send each coefficient of the filter at place n.
+#[tactic(auto, unfolding(crate::specs::Offenders::valid_at, alf_spec::specs::Faults::cross_filter_valid))]
 fn valid_at(bank: &[i16], n: usize) -> bool
     requires { n < 64 }
     ensures { result ≡ valid_at bank.now n }
 {
     let start = 752 * (n / 8) + (696 + 7 * (n % 8));
-    let mut j = 0;
-    while j < 7 {
-        if !cross_coeff_valid(number_at(bank, start + j)) {
-            return false;
-        }
-        j += 1;
-    }
-    true
+    (0..7).all(|j| cross_coeff_valid(number_at(bank, start + j)))
 }
 
-// The first place from `from` on whose filter has another coefficient; 64 or more where there is none.
-fn first_offender(bank: &[i16], from: usize) -> usize
-    ensures { result ≡ next_offender bank.now from }
+// The first place from `from` on whose filter has another coefficient.
+fn first_offender(bank: &[i16], from: usize) -> Option<usize>
+    ensures { result ≡ found_at (next_offender bank.now from) }
 {
-    let mut n = from;
-    while n < 64 {
-        if !valid_at(bank, n) {
-            return n;
-        }
-        n += 1;
-    }
-    n
+    (from..64).find(|n| !valid_at(bank, *n))
 }
 
 // Cause 21: whether H.266 can send every coefficient of every cross-component filter of a bank.
 pub fn cross_filters_valid(bank: &[i16]) -> bool
     ensures { result ≡ cross_filters_valid bank.now }
 {
-    64 <= first_offender(bank, 0)
+    first_offender(bank, 0).is_none()
 }
 
 // The filter at place n.
@@ -67,15 +51,13 @@ fn cross_filter_at(n: usize) -> CrossFilter
 
 // The next filter, from place `from` on, that has a coefficient which H.266 can't send. To go through all of them, begin at 0 and go on
 // from the place that comes with each.
-pub fn next_offender(bank: &[i16], from: usize) -> Offender
+#[tactic(auto, unfolding(crate::specs::Offenders::offender_at))]
+pub fn next_offender(bank: &[i16], from: usize) -> Option<Offender>
     ensures { result ≡ offender_at (next_offender bank.now from) }
 {
-    let n = first_offender(bank, from);
-    if n < 64 {
-        return Offender::Found {
-            filter: cross_filter_at(n),
-            next: n + 1,
-        };
-    }
-    Offender::Nothing
+    let n = first_offender(bank, from)?;
+    Some(Offender {
+        filter: cross_filter_at(n),
+        next: n + 1,
+    })
 }
