@@ -123,11 +123,11 @@ for path, text in sources():
             put('6a parallel lists', path, text, at, f'fn {name}')
         if len(re.findall(r'\bf\d: i16', params)) >= 3:
             put('6b a list as numbered parameters', path, text, at, f'fn {name}')
-        if re.search(r'(while|for)[^\n]*\{(?:(?!\n    \})[\s\S])*return', body) and re.search(r'fn \w*|', name):
+        if re.search(r"^    (?:'\w+: )?(while|for)\b[^\n]*\{(?:(?!^    \})[\s\S])*?\breturn\b", body, re.M):
             put('6c a search by hand', path, text, at, f'fn {name}')
         for m in re.finditer(r'\bmatch (filter|rule|step_in\([^)]*\)|self\.rule)\b', body):
             put('7 a switch on what to run', path, text, at, f'fn {name}')
-        for m in re.finditer(r"^\s*(?:'\w+: )?(while|loop)\b", body, re.M):
+        for m in re.finditer(r"^\s*(?:'\w+: )?(while(?! let)|loop)\b", body, re.M):
             put('3 loops that count by hand', path, text, at, f'fn {name}: {m.group(1)}')
 for twins in shapes.values():
     if len(twins) > 1:
