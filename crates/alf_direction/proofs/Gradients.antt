@@ -1,6 +1,6 @@
 -- Bounds of what the direction test works out. Assumes nothing.
 use mathlib.Core.Path.{◌≡◌, refl}
-use mathlib.Core.Bool.{Bool, true, false, cond, ◌&&◌}
+use mathlib.Core.Bool.{Bool, true, false, cond}
 use Prim.Native.Nat.{ℕ, ◌+◌, ◌*◌, ◌/◌, ◌%◌, ◌^◌, ◌-◌, ◌≤◌, ◌<◌, min}
 use native.Mathlib.Nat.{mod-eq_of_lt, mul-le-mul, le_of_lt}
 use native.Mathlib.Omega.{arith}
@@ -12,15 +12,7 @@ use Rattle.alf_spec.specs.Lists.{every_from, every}
 use Rattle.alf_spec.specs.Classes.{activity_table, transpose_table, gradient, larger, hv, dd, diagonal, main_gradient, other_gradient, strength}
 use Rattle.alf_spec.specs.Classes.{activity, transpose_idx, filt_idx, class_of_sums}
 use Rattle.alf_spec.specs.Process.{class_number}
-use Rattle.alf_spec.proofs.Tests.{both, cond_either, every-at}
-
--- what the test of four numbers against one limit says
-pub four_below : (n a b c d : ℕ) → ((ltb a n && ltb b n) && (ltb c n && ltb d n)) ≡ true → (a < n) × (b < n) × (c < n) × (d < n)
-four_below n a b c d e =
-    let pairs = both (ltb a n && ltb b n) (ltb c n && ltb d n) e in
-    let first = both (ltb a n) (ltb b n) pairs.0 in
-    let second = both (ltb c n) (ltb d n) pairs.1 in
-    (ltb-true _ _ first.0, ltb-true _ _ first.1, ltb-true _ _ second.0, ltb-true _ _ second.1)
+use Rattle.alf_spec.proofs.Tests.{cond_either, every-at}
 
 -- a shift by up to 3 loses no bit of a sum below 2^18
 pub shift_kept : (n k : ℕ) → n < 2 ^ 18 → k ≤ 8 → n * k % 2 ^ 32 ≡ n * k
