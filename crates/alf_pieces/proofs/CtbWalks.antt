@@ -1,5 +1,5 @@
 -- A walk over all pieces of a CTB: what it has passed grows by one piece, and in the end it is the CTB. Assumes nothing.
-use mathlib.Core.Path.{◌≡◌, refl, sym, subst}
+use mathlib.Core.Path.{◌≡◌, refl}
 use mathlib.Core.Logic.{inl, inr}
 use mathlib.Core.Bool.{Bool, true, false, ◌||◌, or-false}
 use mathlib.Core.List.{List}
@@ -13,7 +13,7 @@ use Rattle.alf_lists.proofs.Painted.{paint_is, paint_of, paint_none, paint_call}
 use Rattle.alf_lists.proofs.Regions.{rect_none, rect_beside, rect_stacked}
 use Rattle.alf_pieces.specs.declared.walks.CtbWalk.{CtbWalk}
 use Rattle.alf_pieces.specs.Pieces.{limit_along}
-use Rattle.alf_pieces.specs.Walks.{Walk, Turn, Axes, StandsAt, beside, below, Follows, in_piece, passed_at, passed}
+use Rattle.alf_pieces.specs.Walks.{Axes, StandsAt, beside, below, Follows, in_piece, passed_at, passed}
 
 -- positions in order are, in the samples of a plane, still in order
 div_order : (ratio a b : ℕ) → a ≤ b → a / ratio ≤ b / ratio
@@ -92,13 +92,3 @@ passed_none x w width column_ratio row_ratio value old e f =
       rect_none width (x.columns.place * x.columns.ctb / column_ratio) (x.columns.place * x.columns.ctb / column_ratio)
           (x.rows.place * x.rows.ctb / row_ratio) (w.rows.end / row_ratio) k (inl (omega arith)),
     ))))
-
--- where both pieces are found, the walk stands there
-pub stands_at : {x : Axes} {w : CtbWalk} {u v : ℕ} → Walk x.columns x.virtual_columns u → Walk x.rows x.virtual_rows v
-    → Turn x.columns x.virtual_columns u w.columns → Turn x.rows x.virtual_rows v w.rows → StandsAt x w
-stands_at {x} {w} a b t s = record {
-  columns = rw t.start a;
-  rows = rw s.start b;
-  across = subst (λ (u : ℕ). Turn x.columns x.virtual_columns u w.columns) (sym t.start) t;
-  down = subst (λ (v : ℕ). Turn x.rows x.virtual_rows v w.rows) (sym s.start) s;
-}

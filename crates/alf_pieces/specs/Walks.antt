@@ -3,9 +3,12 @@
 use Rattle.std.specs.Prelude.{◌≡◌, Bool, ◌||◌, Option, Some, None, ℕ, ◌*◌, ◌/◌, ◌%◌, ◌≤◌, ◌<◌}
 use mathlib.Core.List.{List, Memᴰ}
 use Rattle.alf_spec.specs.declared.ClipCause.{ClipCause}
+use Rattle.alf_spec.specs.declared.Grid.{Grid}
+use Rattle.alf_spec.specs.declared.Sides.{Sides}
+use Rattle.alf_spec.specs.Input.{Layout}
 use Rattle.alf_spec.specs.Geometry.{Side, Axis}
 use Rattle.alf_boundary.specs.declared.clips.CtbAxis.{CtbAxis}
-use Rattle.alf_boundary.specs.Clips.{axis_along, sides_along}
+use Rattle.alf_boundary.specs.Clips.{column_axis, row_axis, axis_along, sides_along}
 use Rattle.alf_lists.specs.Regions.{in_rect}
 use Rattle.alf_pieces.specs.declared.pieces.Piece.{Piece}
 use Rattle.alf_pieces.specs.declared.walks.CtbWalk.{CtbWalk}
@@ -48,6 +51,15 @@ pub record Axes : Type 0 where
   pub virtual_columns : List ℕ
   pub rows : CtbAxis
   pub virtual_rows : List ℕ
+
+-- those of a layout with this grid through the CTB at address k, with its sides and with the line so many luma rows above its bottom
+abbrev pub axes_through : Layout → Grid → Sides → ℕ → ℕ → Axes
+axes_through l g s line k = record {
+  columns = column_axis l.picture g s (k % g.columns);
+  virtual_columns = l.virtual_columns;
+  rows = row_axis l.picture g s line (k / g.columns);
+  virtual_rows = l.virtual_rows;
+}
 
 -- both are axes of an accepted picture through one of its CTBs
 abbrev pub AlongAxes : Axes → Type 0

@@ -1,9 +1,10 @@
 // A walk over the pieces of a CTB: a piece of its rows at a time, and in that a piece of its columns at a time.
-ghost use Rattle.std.specs.Prelude.{◌≡◌, ◌*◌};
-ghost use Rattle.alf_pieces.specs.Walks.{Axes, AlongAxes, Stands, Follows};
+ghost use Rattle.std.specs.Prelude.{◌≡◌, ◌*◌, ◌<◌};
+ghost use Rattle.alf_pieces.specs.Walks.{Axes, axes_through, AlongAxes, Stands, Follows};
 
 use crate::pieces::{Piece, ctb_limit, piece_at};
-use alf_boundary::clips::{CtbAxis, ctb_start};
+use alf_boundary::clips::{CtbAxis, column_axis, ctb_start, row_axis};
+use alf_spec::{Grid, Layout, Sides};
 use std::marker::Model;
 
 // The two axes through a CTB, each with the virtual boundaries along it. Clauses see them as the record `Axes` of specs/Walks.
@@ -19,6 +20,21 @@ impl<'a> Model for CtbAxes<'a> {
     ghost Value = { Axes };
 
     ghost view = { λ a. record { columns = a.columns; virtual_columns = a.virtual_columns.now; rows = a.rows; virtual_rows = a.virtual_rows.now } };
+}
+
+impl<'a> CtbAxes<'a> {
+    // Those through the CTB at address k, which has these sides, with the line so many luma rows above the CTB's bottom.
+    pub fn through(layout: &Layout<'a>, grid: Grid, sides: Sides, line: u32, k: u32) -> CtbAxes<'a>
+        requires { 0 < grid.columns }
+        ensures { result ≡ axes_through layout.now grid sides line k }
+    {
+        CtbAxes {
+            columns: column_axis(layout.picture, grid, sides, k % grid.columns),
+            virtual_columns: layout.virtual_columns,
+            rows: row_axis(layout.picture, grid, sides, line, k / grid.columns),
+            virtual_rows: layout.virtual_rows,
+        }
+    }
 }
 
 // Where a walk stands: at a piece with these columns and rows.

@@ -1,6 +1,6 @@
 use Rattle.std.proofs.Common.{◌≡◌, ◌+◌, ◌/◌, ◌≤◌, inr, arith}
 use Rattle.alf_math.proofs.Grids.{depth_bounds}
-use Rattle.alf_lists.proofs.Painted.{paint_of, paint_is, paint_none, paint_call}
+use Rattle.alf_lists.proofs.Painted.{paint_is, paint_none, paint_call}
 use Rattle.alf_lists.proofs.Regions.{rect_none, rect_more}
 use Rattle.alf_pieces.specs.Copies.{extent}
 use Rattle.alf_classify.proofs.PieceRows.{blocks, prepared, row_inside, row_ready, row_number}
