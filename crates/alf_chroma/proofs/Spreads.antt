@@ -70,6 +70,3 @@ module _ (filters : List ℤ) (j : ℕ) {n : ℕ} {taps one two : List ℤ} (T :
         clip-at (128 * i + x) (omega arith)
         ∙ by_cases (ℕ_discrete i j) (λ (e : i ≡ j). rw (e, here x l)) (λ ne. rw (apart i x (omega arith) l) (S.clips i x (omega arith) l));
   }
-
-pub spread_none : {filters taps : List ℤ} {n : ℕ} → Spread filters 0 n taps
-spread_none = record { coefficients = λ j x h l. absurd (omega arith); clips = λ j x h l. absurd (omega arith) }

@@ -5,9 +5,10 @@ ghost use Rattle.std.specs.Prelude.{◌≡◌, ◌+◌, ◌≤◌, ◌<◌, leng
 ghost use Rattle.alf_spec.specs.Lists.{painted};
 ghost use Rattle.alf_spec.specs.Arithmetic.{tap_sum};
 ghost use Rattle.alf_lists.specs.Regions.{between};
-ghost use Rattle.alf_taps.specs.Spread.{spread_coeff, spread_clip, TapNumbers};
+ghost use Rattle.alf_taps.specs.Spread.{spread_coeff, spread_clip};
 ghost use Rattle.alf_chroma.specs.Samples.{ChromaReads, copy_plus, copy_minus, chroma_copy_sample, chroma_copy_sample_from};
 
+use crate::source::ChromaSource;
 use alf_math::rounding::filtered;
 use alf_taps::add_tap;
 
@@ -22,11 +23,14 @@ pub struct ChromaStarts {
 }
 
 // The six taps of (1508), at column x; the sample's column of the copy is x + 3.
-fn chroma_sum(copy: &[u16], curr: u16, x: usize, s: ChromaStarts, taps: &[i16]) -> i32
-    requires { (ChromaReads copy.now s x) × (curr < 4096) × (x < 128) × (TapNumbers taps.now) }
-    ensures { result ≡ tap_sum 6 curr (spread_coeff taps.now x) (spread_clip taps.now x)
-        (copy_plus copy.now s x) (copy_minus copy.now s x) }
+fn chroma_sum(source: &ChromaSource, curr: u16, x: usize) -> i32
+    requires { (ChromaReads source.now.copy.now source.now.starts x) × (curr < 4096) × (x < 128) }
+    ensures { result ≡ tap_sum 6 curr (spread_coeff source.now.taps.now x) (spread_clip source.now.taps.now x)
+        (copy_plus source.now.copy.now source.now.starts x) (copy_minus source.now.copy.now source.now.starts x) }
 {
+    let copy = source.copy;
+    let s = source.starts;
+    let taps = source.taps;
     let s0 = add_tap(0, copy, curr, x, s.below2, 3, s.above2, 3, taps, 0);
     let s1 = add_tap(s0, copy, curr, x, s.below1, 4, s.above1, 2, taps, 128);
     let s2 = add_tap(s1, copy, curr, x, s.below1, 3, s.above1, 3, taps, 256);
@@ -36,34 +40,27 @@ fn chroma_sum(copy: &[u16], curr: u16, x: usize, s: ChromaStarts, taps: &[i16]) 
 }
 
 // The filtered sample at column x.
-fn chroma_at(copy: &[u16], x: usize, s: ChromaStarts, taps: &[i16], shift: u32, depth: u32) -> u16
-    requires { (ChromaReads copy.now s x) × (x < 128) × (TapNumbers taps.now) × (shift < 32) × (depth ≤ 12) }
-    ensures { result ≡ chroma_copy_sample copy.now s taps.now shift depth x }
+fn chroma_at(source: &ChromaSource, x: usize) -> u16
+    requires { (ChromaReads source.now.copy.now source.now.starts x) × (x < 128) }
+    ensures { result ≡ chroma_copy_sample source.now.copy.now source.now.starts source.now.taps.now source.now.shift source.now.depth x }
 {
-    let here = s.here;
-    let curr = copy[here + x + 3];
-    filtered(curr, chroma_sum(copy, curr, x, s, taps), shift, depth)
+    let here = source.starts.here;
+    let curr = source.copy[here + x + 3];
+    filtered(
+        curr,
+        chroma_sum(source, curr, x),
+        source.shift,
+        source.depth,
+    )
 }
 
 // The filtered samples of n columns, put into the plane from the index `from` on.
-pub(crate) fn chroma_row(
-    copy: &[u16],
-    n: usize,
-    s: ChromaStarts,
-    taps: &[i16],
-    shift: u32,
-    depth: u32,
-    output: &mut [u16],
-    from: usize,
-)
-    requires { (ChromaReads copy.now s n) × (n ≤ 128) × (TapNumbers taps.now) × (shift < 32) × (depth ≤ 12)
-        × (from + n ≤ length output.old) }
+pub(crate) fn chroma_row(source: &ChromaSource, n: usize, output: &mut [u16], from: usize)
+    requires { (ChromaReads source.now.copy.now source.now.starts n) × (n ≤ 128) × (from + n ≤ length output.old) }
     ensures { output.new ≡ painted output.old (between from n)
-        (chroma_copy_sample_from copy.now s taps.now shift depth from) }
+        (chroma_copy_sample_from source.now.copy.now source.now.starts source.now.taps.now source.now.shift source.now.depth from) }
 {
-    let mut x: usize = 0;
-    while x < n {
-        output[from + x] = chroma_at(copy, x, s, taps, shift, depth);
-        x += 1;
+    for x in 0..n {
+        output[from + x] = chroma_at(source, x);
     }
 }

@@ -4,3 +4,4 @@
 pub(crate) mod kernel;
 pub mod piece;
 pub(crate) mod rows;
+pub(crate) mod source;

@@ -17,6 +17,7 @@ ghost use Rattle.alf_chroma.specs.Pieces.{Spread, RowsWork, ChromaWork, unlined_
 
 use crate::kernel::{ChromaStarts, chroma_row};
 use crate::rows::rows_at;
+use crate::source::ChromaSource;
 use alf_lists::fill;
 use alf_math::grid::{sub_height, sub_width};
 use alf_pieces::copies::{copy_piece, extent, plane_index};
@@ -33,11 +34,9 @@ fn spread(filters: &[i16], n: usize, taps: &mut [i16])
         × ((j : ℕ) → j < 6 → ClipRange (get_or filters.now (6 + j) (pos 0))) × (n ≤ 128) × (TapNumbers taps.old) }
     ensures { (Spread filters.now 6 n taps.new) × (TapNumbers taps.new) }
 {
-    let mut j: usize = 0;
-    while j < TAPS {
+    for j in 0..TAPS {
         fill(taps, COLUMNS * j, n, filters[j]);
         fill(taps, CLIPS + COLUMNS * j, n, filters[TAPS + j]);
-        j += 1;
     }
 }
 
@@ -75,8 +74,14 @@ fn filter_row(
     ensures { output.new ≡ painted output.old (between from n)
         (piece_sample_from copy.now (n + 6) offsets taps.now depth t from) }
 {
-    let s = chroma_starts(n + 6, t, offsets);
-    chroma_row(copy, n, s, taps, offsets.shift, depth, output, from);
+    let source = ChromaSource {
+        copy,
+        starts: chroma_starts(n + 6, t, offsets),
+        taps,
+        shift: offsets.shift,
+        depth,
+    };
+    chroma_row(&source, n, output, from);
 }
 
 // The filtered samples of a piece, row by row, from its copy.
@@ -98,8 +103,7 @@ fn filter_rows(
     let depth = picture.bit_depth as u32;
     let width = picture.width / sub_width(picture);
     let ratio = sub_height(picture);
-    let mut y = rows.start;
-    while y < rows.end {
+    for y in rows.start..rows.end {
         let offsets = rows_at(picture.height, grid.ctb, ratio, y);
         let from = plane_index(width, y, columns.start);
         filter_row(
@@ -112,7 +116,6 @@ fn filter_rows(
             output,
             from,
         );
-        y += 1;
     }
 }
 

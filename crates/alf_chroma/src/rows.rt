@@ -7,27 +7,17 @@ ghost use Rattle.alf_chroma.specs.Pieces.{chroma_rows_of};
 use alf_boundary::clips::line_rule;
 use alf_spec::ChromaRows;
 
-// An entry of Table 46.
-fn entry(y1: u32, y2: u32, shift: u32) -> ChromaRows
-    ensures { result ≡ record { y1 = y1; y2 = y2; shift = shift } }
-{
-    ChromaRows { y1, y2, shift }
-}
-
 // Table 46: at the line the taps stay in their own row, next to it they reach one row.
 #[tactic(auto, unfolding(alf_spec::specs::Chroma::chroma_rows))]
 fn chroma_rows(line: bool, distance: u32) -> ChromaRows
     ensures { result ≡ chroma_rows line distance }
 {
-    if line {
-        match distance {
-            2 | 3 => entry(0, 0, 10),
-            1 | 4 => entry(1, 1, 7),
-            _ => entry(1, 2, 7),
-        }
-    } else {
-        entry(1, 2, 7)
-    }
+    let (y1, y2, shift) = match distance {
+        2 | 3 if line => (0, 0, 10),
+        1 | 4 if line => (1, 1, 7),
+        _ => (1, 2, 7),
+    };
+    ChromaRows { y1, y2, shift }
 }
 
 // How far the plane's row y lies from the bottom of its CTB, in the plane's own rows.

@@ -1,7 +1,7 @@
 -- How large a tap is, and what the call for a tap asks and gives where a kernel makes the sum tap by tap. Assumes nothing.
 use mathlib.Core.Path.{◌≡◌, ◌∙◌}
 use mathlib.Core.Bool.{Bool, true, false, cond}
-use mathlib.Core.List.{List, [], ◌∷◌, map}
+use mathlib.Core.List.{List, [], ◌∷◌}
 use Prim.Native.Nat.{ℕ, zero, suc, ◌+◌, ◌-◌, ◌*◌, ◌^◌, ◌≤◌, ◌<◌}
 use native.Mathlib.Nat.{mul-le-mul}
 use native.Mathlib.Omega.{arith}
@@ -43,16 +43,7 @@ pub tap-small : (f : ℤ) (sample middle : ℕ) → nat_abs f ≤ 128 → sample
     → nat_abs (f *ℤ (pos sample -ℤ pos middle)) ≤ 128 * 4095
 tap-small f sample middle small h l = rw abs_mul (mul-le-mul small (differ sample middle h l))
 
--- ---- the coefficients, read from their bits
-
-tap-fits : {f : List ℤ} → SmallTaps f → (j : ℕ) → SFits w16 (get_or f j (pos 0))
-tap-fits h j = fits_abs (omega (arith, h.each j))
-
-pub taps_back : {f0 f1 f2 f3 f4 f5 f6 : ℤ} → SmallTaps (f0 ∷ f1 ∷ f2 ∷ f3 ∷ f4 ∷ f5 ∷ f6 ∷ [])
-    → map (λ f. to_z w16 (of_z w16 f)) (f0 ∷ f1 ∷ f2 ∷ f3 ∷ f4 ∷ f5 ∷ f6 ∷ []) ≡ f0 ∷ f1 ∷ f2 ∷ f3 ∷ f4 ∷ f5 ∷ f6 ∷ []
-taps_back h = λ t.
-    to_z-of_z (tap-fits h 0) t ∷ to_z-of_z (tap-fits h 1) t ∷ to_z-of_z (tap-fits h 2) t ∷ to_z-of_z (tap-fits h 3) t ∷ to_z-of_z (tap-fits h 4) t
-    ∷ to_z-of_z (tap-fits h 5) t ∷ to_z-of_z (tap-fits h 6) t ∷ []
+-- ---- the coefficients
 
 each-small : (f : List ℤ) → Each (λ c. nat_abs c ≤ 128) f → (j : ℕ) → nat_abs (get_or f j (pos 0)) ≤ 128
 each-small [] h j = omega arith
@@ -63,16 +54,6 @@ pub seven-small : (f : List ℤ) → ((j : ℕ) → nat_abs (get_or f j (pos 0))
 seven-small f h = record { each = each-small (seven f) (h 0, (h 1, (h 2, (h 3, (h 4, (h 5, (h 6, tt))))))) }
 
 -- ---- what is read of the split copy
-
--- what n samples of a row read holds for fewer
-pub reads_less : {split : List ℕ} {s : CrossStarts} {n less : ℕ} → CrossReads split s n → less ≤ n → CrossReads split s less
-reads_less r h = record {
-  above_first = r.above_first;
-  here_first = r.here_first;
-  below_first = r.below_first;
-  room = omega (arith, r.room);
-  small = λ k l. r.small k (omega arith);
-}
 
 -- a tap of sample `at`: its coefficient is small, and its row and its column begin no later than the last
 module _ {split : List ℕ} {s : CrossStarts} {at : ℕ} (reads : CrossReads split s at) (f : ℤ) (small : nat_abs f ≤ 128) (row column : ℕ)

@@ -1,12 +1,13 @@
 // (1533): sum = Σ f[ j ] * ( luma at tap j − luma at the sample's own position ), for the taps j = 0..6.
 // A row of samples corrected so. One loop with all taps in its body, 16 bits wherever memory is read or written, and the taps of
 // neighbouring samples stand side by side: so LLVM vectorises it.
-ghost use Rattle.std.specs.Prelude.{◌≡◌, [], ◌∷◌, ℕ, ◌+◌, ◌*◌, ◌^◌, ◌≤◌, ◌<◌, length, get_or, pos, nat_abs, ◌+ℤ◌, ◌-ℤ◌, ◌*ℤ◌};
+ghost use Rattle.std.specs.Prelude.{◌≡◌, ◌+◌, ◌*◌, ◌^◌, ◌≤◌, ◌<◌, length, get_or, pos, nat_abs, ◌+ℤ◌, ◌-ℤ◌, ◌*ℤ◌};
 ghost use Rattle.alf_spec.specs.Lists.{painted};
 ghost use Rattle.alf_spec.specs.CrossComponent.{corrected as corrected_by};
 ghost use Rattle.alf_lists.specs.Regions.{between};
-ghost use Rattle.alf_cross.specs.Taps.{CrossReads, SmallTaps, split_sum, row_sample};
+ghost use Rattle.alf_cross.specs.Taps.{CrossReads, split_sum, row_sample};
 
+use crate::source::CrossSource;
 use alf_math::clipping::{clip16, half_levels, level16};
 use alf_math::rounding::rounded;
 
@@ -60,82 +61,42 @@ fn cross_tap(
 }
 
 // The seven taps of (1533), for sample `at` of its row.
-fn cross_sum(
-    split: &[u16],
-    s: CrossStarts,
-    at: usize,
-    f0: i16,
-    f1: i16,
-    f2: i16,
-    f3: i16,
-    f4: i16,
-    f5: i16,
-    f6: i16,
-) -> i32
-    requires { (CrossReads split.now s at) × (SmallTaps (f0 ∷ f1 ∷ f2 ∷ f3 ∷ f4 ∷ f5 ∷ f6 ∷ [])) }
-    ensures { (result ≡ split_sum split.now s (f0 ∷ f1 ∷ f2 ∷ f3 ∷ f4 ∷ f5 ∷ f6 ∷ []) at) × (nat_abs result ≤ 7 * (128 * 4095)) }
+fn cross_sum(source: &CrossSource, s: CrossStarts, at: usize) -> i32
+    requires { CrossReads source.now.split.now s at }
+    ensures { (result ≡ split_sum source.now.split.now s source.now.coeffs at) × (nat_abs result ≤ 7 * (128 * 4095)) }
 {
+    let split = source.split;
+    let f = source.coeffs;
     let here = s.here;
     let own = s.own;
     let middle = split[here + at + own];
-    let s0 = cross_tap(0, split, middle, s.above1, at, own, f0);
-    let s1 = cross_tap(s0, split, middle, here, at, s.left, f1);
-    let s2 = cross_tap(s1, split, middle, here, at, s.right, f2);
-    let s3 = cross_tap(s2, split, middle, s.below1, at, s.left, f3);
-    let s4 = cross_tap(s3, split, middle, s.below1, at, own, f4);
-    let s5 = cross_tap(s4, split, middle, s.below1, at, s.right, f5);
-    cross_tap(s5, split, middle, s.below2, at, own, f6)
+    let s0 = cross_tap(0, split, middle, s.above1, at, own, f[0]);
+    let s1 = cross_tap(s0, split, middle, here, at, s.left, f[1]);
+    let s2 = cross_tap(s1, split, middle, here, at, s.right, f[2]);
+    let s3 = cross_tap(s2, split, middle, s.below1, at, s.left, f[3]);
+    let s4 = cross_tap(s3, split, middle, s.below1, at, own, f[4]);
+    let s5 = cross_tap(s4, split, middle, s.below1, at, s.right, f[5]);
+    cross_tap(s5, split, middle, s.below2, at, own, f[6])
 }
 
 // The chroma sample `curr`, which is sample `at` of its row, corrected by its taps.
-fn cross_at(
-    split: &[u16],
-    s: CrossStarts,
-    at: usize,
-    f0: i16,
-    f1: i16,
-    f2: i16,
-    f3: i16,
-    f4: i16,
-    f5: i16,
-    f6: i16,
-    curr: u16,
-    depth: u32,
-) -> u16
-    requires { (CrossReads split.now s at) × (SmallTaps (f0 ∷ f1 ∷ f2 ∷ f3 ∷ f4 ∷ f5 ∷ f6 ∷ []))
-        × (curr < 4096) × (1 ≤ depth) × (depth ≤ 12) }
-    ensures { result ≡ corrected_by depth curr (split_sum split.now s (f0 ∷ f1 ∷ f2 ∷ f3 ∷ f4 ∷ f5 ∷ f6 ∷ []) at) }
+fn cross_at(source: &CrossSource, s: CrossStarts, at: usize, curr: u16) -> u16
+    requires { (CrossReads source.now.split.now s at) × (curr < 4096) }
+    ensures { result ≡ corrected_by source.now.depth curr (split_sum source.now.split.now s source.now.coeffs at) }
 {
-    let sum = cross_sum(split, s, at, f0, f1, f2, f3, f4, f5, f6);
-    corrected(curr, sum, depth)
+    let sum = cross_sum(source, s, at);
+    corrected(curr, sum, source.depth)
 }
 
-// n samples of a chroma plane, from index `from` on.
-pub(crate) fn cross_row(
-    split: &[u16],
-    s: CrossStarts,
-    f0: i16,
-    f1: i16,
-    f2: i16,
-    f3: i16,
-    f4: i16,
-    f5: i16,
-    f6: i16,
-    depth: u32,
-    chroma: &[u16],
-    from: usize,
-    n: usize,
-    output: &mut [u16],
-)
-    requires { (CrossReads split.now s n) × (SmallTaps (f0 ∷ f1 ∷ f2 ∷ f3 ∷ f4 ∷ f5 ∷ f6 ∷ [])) × (1 ≤ depth) × (depth ≤ 12)
-        × ((k : ℕ) → get_or chroma.now k 0 < 4096) × (from + n ≤ length chroma.now) × (from + n ≤ length output.old) }
-    ensures { output.new ≡ painted output.old (between from n)
-        (row_sample split.now s (f0 ∷ f1 ∷ f2 ∷ f3 ∷ f4 ∷ f5 ∷ f6 ∷ []) depth chroma.now from) }
+// The samples of a row of the chroma plane.
+pub(crate) fn cross_row(source: &CrossSource, row: CrossRow, output: &mut [u16])
+    requires { (CrossReads source.now.split.now row.starts row.n) × (row.from + row.n ≤ length source.now.chroma.now)
+        × (row.from + row.n ≤ length output.old) }
+    ensures { output.new ≡ painted output.old (between row.from row.n)
+        (row_sample source.now.split.now row.starts source.now.coeffs source.now.depth source.now.chroma.now row.from) }
 {
-    let mut x: usize = 0;
-    while x < n {
-        let curr = chroma[from + x];
-        output[from + x] = cross_at(split, s, x, f0, f1, f2, f3, f4, f5, f6, curr, depth);
-        x += 1;
+    for x in 0..row.n {
+        let curr = source.chroma[row.from + x];
+        output[row.from + x] = cross_at(source, row.starts, x, curr);
     }
 }

@@ -5,6 +5,7 @@
 mod kernel;
 mod piece;
 mod rows;
+mod source;
 mod split;
 
 pub use piece::filter_piece;

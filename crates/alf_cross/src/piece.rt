@@ -13,8 +13,9 @@ ghost use Rattle.alf_pieces.specs.Pieces.{PieceOf, BlockPiece, CtbOf};
 ghost use Rattle.alf_pieces.specs.Copies.{copy_length};
 ghost use Rattle.alf_cross.specs.Pieces.{CrossPlanes, CrossWork, SmallCopy, CrossFilter, cross_row_of, split_cross_at};
 
-use crate::kernel::CrossRow;
-use crate::rows::{correct_row, cross_starts, rows_at};
+use crate::kernel::{CrossRow, cross_row};
+use crate::rows::{coefficients, cross_starts, rows_at};
+use crate::source::CrossSource;
 use crate::split::split_rows;
 use alf_math::grid::{sub_height, sub_width};
 use alf_pieces::copies::{copy_piece, extent, plane_index};
@@ -62,14 +63,16 @@ fn piece_rows(
         (rows.start / sub_height picture) (rows.end / sub_height picture))
         (split_cross_at picture grid.ctb filters.now split.now chroma.now columns rows) }
 {
-    let depth = picture.bit_depth as u32;
+    let source = CrossSource {
+        split,
+        chroma,
+        coeffs: coefficients(filters),
+        depth: picture.bit_depth as u32,
+    };
     let ratio = sub_height(picture);
-    let end = rows.end / ratio;
-    let mut v = rows.start / ratio;
-    while v < end {
+    for v in rows.start / ratio..rows.end / ratio {
         let row = piece_row(picture, grid, columns, rows, v);
-        correct_row(split, row, filters, depth, chroma, output);
-        v += 1;
+        cross_row(&source, row, output);
     }
 }
 

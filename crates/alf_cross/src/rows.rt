@@ -1,12 +1,10 @@
-// The rows and columns that the taps of a sample read.
-ghost use Rattle.std.specs.Prelude.{◌≡◌, ℕ, ◌+◌, ◌*◌, ◌≤◌, ◌<◌, pos, nat_abs, length, get_or};
-ghost use Rattle.alf_spec.specs.Lists.{painted};
+// The rows and columns that the taps of a sample read, and their coefficients.
+ghost use Rattle.std.specs.Prelude.{◌≡◌, ◌+◌, ◌≤◌, length};
 ghost use Rattle.alf_spec.specs.CrossComponent.{cross_rows};
-ghost use Rattle.alf_lists.specs.Regions.{between};
-ghost use Rattle.alf_cross.specs.Taps.{CrossReads, cross_starts_of, seven, row_sample};
+ghost use Rattle.alf_cross.specs.Taps.{cross_starts_of, seven};
 ghost use Rattle.alf_cross.specs.Pieces.{cross_rows_of};
 
-use crate::kernel::{CrossRow, CrossStarts, cross_row};
+use crate::kernel::CrossStarts;
 use crate::split::column_index;
 use alf_boundary::clips::line_rule;
 use alf_spec::CrossRows;
@@ -16,15 +14,12 @@ use alf_spec::CrossRows;
 fn cross_rows(line: bool, distance: u32) -> CrossRows
     ensures { result ≡ cross_rows line distance }
 {
-    if line {
-        match distance {
-            5 | 4 => CrossRows { y1: 0, y2: 0 },
-            6 | 3 => CrossRows { y1: 1, y2: 1 },
-            _ => CrossRows { y1: 1, y2: 2 },
-        }
-    } else {
-        CrossRows { y1: 1, y2: 2 }
-    }
+    let (y1, y2) = match distance {
+        5 | 4 if line => (0, 0),
+        6 | 3 if line => (1, 1),
+        _ => (1, 2),
+    };
+    CrossRows { y1, y2 }
 }
 
 // Table 47 at luma row y.
@@ -53,24 +48,12 @@ pub(crate) fn cross_starts(pitch: usize, j: usize, r: CrossRows, step: usize) ->
     }
 }
 
-// The samples of a row, corrected.
-pub(crate) fn correct_row(
-    split: &[u16],
-    r: CrossRow,
-    filters: &[i16],
-    depth: u32,
-    chroma: &[u16],
-    output: &mut [u16],
-)
-    requires { (CrossReads split.now r.starts r.n) × (7 ≤ length filters.now)
-        × ((i : ℕ) → nat_abs (get_or filters.now i (pos 0)) ≤ 128) × (1 ≤ depth) × (depth ≤ 12)
-        × ((k : ℕ) → get_or chroma.now k 0 < 4096) × (r.from + r.n ≤ length chroma.now) × (r.from + r.n ≤ length output.old) }
-    ensures { output.new ≡ painted output.old (between r.from r.n)
-        (row_sample split.now r.starts (seven filters.now) depth chroma.now r.from) }
+// The coefficients of a CTB: the first seven of its numbers.
+pub(crate) fn coefficients(filters: &[i16]) -> [i16; 7]
+    requires { 7 ≤ length filters.now }
+    ensures { result ≡ seven filters.now }
 {
-    let starts = r.starts;
-    cross_row(
-        split, starts, filters[0], filters[1], filters[2], filters[3], filters[4], filters[5],
-        filters[6], depth, chroma, r.from, r.n, output,
-    );
+    [
+        filters[0], filters[1], filters[2], filters[3], filters[4], filters[5], filters[6],
+    ]
 }

@@ -4,6 +4,7 @@ ghost use Rattle.std.specs.Prelude.{◌≡◌, ℕ, ◌+◌, ◌*◌, ◌%◌, �
 ghost use Rattle.alf_cross.specs.Taps.{split_index, SplitRow, Split};
 
 // Where column c of the copy stands in its row of the split copy.
+#[tactic(auto, unfolding(crate::specs::Taps::split_index))]
 pub(crate) fn column_index(pitch: usize, step: usize, c: usize) -> usize
     requires { (pitch ≤ 134) × (c ≤ 134) }
     ensures { result ≡ split_index pitch step c }
@@ -22,11 +23,9 @@ fn split_row(copy: &[u16], pitch: usize, at: usize, split: &mut [u16])
         × ((k : ℕ) → k < at → get_or split.new k 0 ≡ get_or split.old k 0) }
 {
     let half = pitch / 2;
-    let mut i: usize = 0;
-    while i < half {
+    for i in 0..half {
         split[at + i] = copy[at + 2 * i];
         split[at + half + i] = copy[at + 2 * i + 1];
-        i += 1;
     }
 }
 
@@ -35,9 +34,7 @@ pub(crate) fn split_rows(copy: &[u16], pitch: usize, rows: usize, split: &mut [u
     requires { (pitch % 2 ≡ 0) × (rows * pitch ≤ length copy.now) × (rows * pitch ≤ length split.old) }
     ensures { Split copy.now split.new pitch 2 rows }
 {
-    let mut j: usize = 0;
-    while j < rows {
+    for j in 0..rows {
         split_row(copy, pitch, j * pitch, split);
-        j += 1;
     }
 }
