@@ -12,7 +12,7 @@ use Rattle.alf_spec.specs.declared.Ctb.{Ctb}
 use Rattle.alf_spec.specs.declared.Grid.{Grid}
 use Rattle.alf_spec.specs.declared.Picture.{Picture}
 use Rattle.alf_spec.specs.Lists.{implies, painted}
-use Rattle.alf_spec.specs.Input.{Layout, given, Input}
+use Rattle.alf_spec.specs.Input.{Layout, given, Input, with_output}
 use Rattle.alf_spec.specs.Geometry.{sub_height, line_rows, plane_of, plane_length, total_ctbs, address}
 use Rattle.alf_spec.specs.Process.{is_filtered, at_index, filtered_plane, result_of, output_plane}
 use Rattle.alf_spec.specs.Faults.{component_valid, parameters_valid, bank_valid, fixed_valid, samples_valid, addresses_valid, tables_fault, fault}
@@ -30,7 +30,7 @@ use Rattle.alf_spec.specs.declared.Filter.TheVariants.{Luma, Chroma, CrossCompon
 use Rattle.alf_spec.specs.Filters.{operation_of}
 use Rattle.alf_ctb.specs.Filters.{column_ratio, row_ratio, plane_filtered, is_on, sample_of}
 use Rattle.alf_ctb.specs.Tables.{ComponentOf, FixedGiven, FixedSame, Switched}
-use Rattle.alf_filter.specs.FilterTables.{FilterTables, TablesAccepted, input_tables, TablesIn}
+use Rattle.alf_filter.specs.FilterTables.{TablesAccepted, TablesIn}
 
 -- ---- the plane that a filter writes
 
@@ -93,11 +93,12 @@ switched (CrossComponent component) i c at e = index_on (own_tables i c at) comp
 
 -- ---- its tables
 
--- those of an accepted input have what a filter needs
-pub tables_accepted : (f : Filter) (i : Input) → fault (operation_of f) i ≡ 0 → {g : Grid} {orders : List ℕ}
-    → GridOf i.layout.picture g → TapOrders orders → TablesAccepted f (input_tables i g orders)
+-- those of an accepted input have what a filter needs; how long its output is plays no part there
+pub tables_accepted : (f : Filter) (own : Input) (n : ℕ) → fault (operation_of f) (with_output n own) ≡ 0 → {g : Grid} {orders : List ℕ}
+    → GridOf own.layout.picture g → TapOrders orders → TablesAccepted f own g orders
 unfolding plane_of
-tables_accepted f i ok grid order =
+tables_accepted f own n ok grid order =
+    let i = with_output n own in
     let op = operation_of f in
     let layout = layout-accepted f i ok in
     let lists = lists_valid i.layout layout.virtual_boundaries in
@@ -117,31 +118,31 @@ tables_accepted f i ok grid order =
       fixed = fixed-accepted f i ok;
     }
 
--- tables that are an input's, table by table
-module _ {f : Filter} {i : Input} {t : FilterTables} (given : TablesIn f i t) where
-  pub same-picture : i.layout.picture ≡ t.picture
-  same-picture = ap (λ (t : FilterTables). t.picture) given.same
+-- what two inputs share that differ in their outputs' lengths alone, part by part
+module _ {f : Filter} {i own : Input} (given : TablesIn f i own) where
+  pub same-picture : i.layout.picture ≡ own.layout.picture
+  same-picture = ap (λ (t : Input). t.layout.picture) given.same
 
-  pub same_virtual_columns : i.layout.virtual_columns ≡ t.virtual_columns
-  same_virtual_columns = ap (λ (t : FilterTables). t.virtual_columns) given.same
+  pub same_virtual_columns : i.layout.virtual_columns ≡ own.layout.virtual_columns
+  same_virtual_columns = ap (λ (t : Input). t.layout.virtual_columns) given.same
 
-  pub same_virtual_rows : i.layout.virtual_rows ≡ t.virtual_rows
-  same_virtual_rows = ap (λ (t : FilterTables). t.virtual_rows) given.same
+  pub same_virtual_rows : i.layout.virtual_rows ≡ own.layout.virtual_rows
+  same_virtual_rows = ap (λ (t : Input). t.layout.virtual_rows) given.same
 
-  pub same-luma : i.luma ≡ t.luma
-  same-luma = ap (λ (t : FilterTables). t.luma) given.same
+  pub same-luma : i.luma ≡ own.luma
+  same-luma = ap (λ (t : Input). t.luma) given.same
 
-  pub same-chroma : i.chroma ≡ t.chroma
-  same-chroma = ap (λ (t : FilterTables). t.chroma) given.same
+  pub same-chroma : i.chroma ≡ own.chroma
+  same-chroma = ap (λ (t : Input). t.chroma) given.same
 
-  -- those of a CTB's filter
+  -- the tables of a CTB's filter
   pub same_tables : {c : Ctb} {k : ℕ} → address i.layout c ≡ k
-      → TablesGiven i c t.slice_map t.slice_params t.bank t.ctb_params k
+      → TablesGiven i c own.layout.slice_map own.slice_params own.bank own.ctb_params k
   same_tables at = record {
-    same_slice_map = ap (λ (t : FilterTables). t.slice_map) given.same;
-    same_slice_params = ap (λ (t : FilterTables). t.slice_params) given.same;
-    same_bank = ap (λ (t : FilterTables). t.bank) given.same;
-    same_ctb_params = ap (λ (t : FilterTables). t.ctb_params) given.same;
+    same_slice_map = ap (λ (t : Input). t.layout.slice_map) given.same;
+    same_slice_params = ap (λ (t : Input). t.slice_params) given.same;
+    same_bank = ap (λ (t : Input). t.bank) given.same;
+    same_ctb_params = ap (λ (t : Input). t.ctb_params) given.same;
     at_address = at;
   }
 
@@ -151,11 +152,11 @@ fixed_same Luma i d e m = record { same_depth = d; same_filters = e; same_map = 
 fixed_same (Chroma component) i d e m = tt
 fixed_same (CrossComponent component) i d e m = tt
 
-pub same-fixed : {f : Filter} {i : Input} {t : FilterTables} → TablesIn f i t
-    → FixedSame f i t.picture.bit_depth t.fixed_filters t.fixed_map
+pub same-fixed : {f : Filter} {i own : Input} → TablesIn f i own
+    → FixedSame f i own.layout.picture.bit_depth own.fixed_filters own.fixed_map
 same-fixed {f} {i} given =
-    fixed_same f i (ap (λ (t : FilterTables). t.picture.bit_depth) given.same)
-    (ap (λ (t : FilterTables). t.fixed_filters) given.same) (ap (λ (t : FilterTables). t.fixed_map) given.same)
+    fixed_same f i (ap (λ (t : Input). t.layout.picture.bit_depth) given.same)
+    (ap (λ (t : Input). t.fixed_filters) given.same) (ap (λ (t : Input). t.fixed_map) given.same)
 
 -- ---- what a filter leaves
 

@@ -1,7 +1,6 @@
 -- Laws that the proofs of this crate cite.
 pub mod ListedCtbs
 pub mod AcceptedFilters
-pub mod Copies
 pub mod CtbFilters
 pub mod FilteredCtbs
 pub mod SpreadZeros

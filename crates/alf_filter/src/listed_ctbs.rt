@@ -4,36 +4,23 @@ ghost use Rattle.std.specs.Prelude.{◌≡◌, ℕ, ◌+◌, ◌*◌, ◌≤◌,
 ghost use Rattle.alf_spec.specs.Lists.{painted};
 ghost use Rattle.alf_spec.specs.Input.{Input};
 ghost use Rattle.alf_ctb.specs.Tables.{ComponentOf};
-ghost use Rattle.alf_filter.specs.FilteredCtbs.{is_listed, mark_of, on_mark};
+ghost use Rattle.alf_filter.specs.FilteredCtbs.{is_listed, on_mark};
 
 use alf_ctb::is_on;
-use alf_spec::Filter;
-
-fn wide(n: u32) -> usize
-    ensures { result ≡ n }
-{
-    n as usize
-}
-
-// The mark of a CTB, by whether its flag or index is on.
-fn mark_of(on: bool) -> u8
-    ensures { result ≡ mark_of on }
-{
-    if on { 1 } else { 0 }
-}
+use alf_spec::{Filter, FilterInput};
 
 // A 1 for each CTB that is listed and on, a 0 for each that is listed and off.
-pub(crate) fn mark_listed(filter: Filter, ctb_params: &[u8], ctb_list: &[u32], marks: &mut [u8])
-    requires { (ComponentOf filter) × ((j : ℕ) → j < length ctb_list.now
-        → (get_or ctb_list.now j 0 < length marks.old) × (8 * get_or ctb_list.now j 0 + 8 ≤ length ctb_params.now)) }
+pub(crate) fn mark_listed(filter: Filter, input: &FilterInput, marks: &mut [u8])
+    requires { (ComponentOf filter) × ((j : ℕ) → j < length input.now.ctb_list
+        → (get_or input.now.ctb_list j 0 < length marks.old)
+        × (8 * get_or input.now.ctb_list j 0 + 8 ≤ length input.now.ctb_params)) }
     ensures { (length marks.new ≡ length marks.old)
-        × ((i : Input) → i.ctb_params ≡ ctb_params.now
-        → marks.new ≡ painted marks.old (is_listed ctb_list.now) (on_mark filter i)) }
+        × ((i : Input) → i.ctb_params ≡ input.now.ctb_params
+        → marks.new ≡ painted marks.old (is_listed input.now.ctb_list) (on_mark filter i)) }
 {
-    let mut j: usize = 0;
-    while j < ctb_list.len() {
-        let k = wide(ctb_list[j]);
-        marks[k] = mark_of(is_on(filter, ctb_params, k));
-        j += 1;
+    let list = input.ctb_list;
+    for address in list {
+        let k = *address as usize;
+        marks[k] = u8::from(is_on(filter, input, k));
     }
 }
