@@ -26,41 +26,12 @@ use Rattle.alf_bank.proofs.FieldRows.{field_head, head_length, coeff_bytes, clip
 use Rattle.alf_bank.proofs.WrittenFiles.{no_magnitude}
 use Rattle.alf_op_bank_write.specs.FieldBytes.{head_of, field_bytes, Writable}
 
--- ---- the head: tag, length and leading numbers, byte k
+-- ---- the leading numbers, byte k of the head
 
 module _ (i : FilterId) where
-  pub head_tag : {k : ℕ} → k ≡ 0 → i.tag ≡ get_or (head_of i) k 0
-  unfolding head_of
-  head_tag e = rw e
-
-  pub head_high : {k : ℕ} → k ≡ 1 → 0 ≡ get_or (head_of i) k 0
-  unfolding head_of
-  head_high e = rw e
-
-  pub head_low : {k a b c : ℕ} → k ≡ 2 → a ≡ (shape_of i.tag).leads → b ≡ (shape_of i.tag).coeffs → c ≡ (shape_of i.tag).clips
-      → a + b + 2 * c ≡ get_or (head_of i) k 0
-  unfolding head_of
-  head_low e ea eb ec = rw (e, ea, eb, ec)
-
   pub head_aps : {k : ℕ} → k ≡ 3 → i.aps ≡ get_or (head_of i) k 0
   unfolding head_of leads_of
   head_aps e = rw e (cond_three (λ (leads : List ℕ). i.aps ≡ get_or leads 0 0) (eqb i.tag 2) (eqb i.tag 3) _ _ _ refl refl refl)
-
-  -- the second leading number by tag
-  pub second-luma : i.tag ≡ 2 → i.filter ≡ get_or (head_of i) 4 0
-  unfolding head_of leads_of
-  second-luma e = simp (eq-eqb _ _ e)
-
-  pub second-chroma : i.tag ≢ 2 → i.tag ≡ 3 → i.filter ≡ get_or (head_of i) 4 0
-  unfolding head_of leads_of
-  second-chroma n e = simp (ne_eqb _ _ n, eq-eqb _ _ e)
-
-  pub second_cross : i.tag ≢ 2 → i.tag ≢ 3 → i.component ≡ get_or (head_of i) 4 0
-  unfolding head_of leads_of
-  second_cross n m = simp (ne_eqb _ _ n, ne_eqb _ _ m)
-
-  pub head_second : {k r : ℕ} → k ≡ 4 → r ≡ get_or (head_of i) 4 0 → r ≡ get_or (head_of i) k 0
-  head_second e q = rw e q
 
   -- only a cross-component filter has a third
   pub head_third : (k : ℕ) → 5 ≤ k → k < 3 + (shape_of i.tag).leads → i.filter ≡ get_or (head_of i) k 0
