@@ -43,35 +43,6 @@ module _ (f : List ℕ) where
   unfolding id_of
   id_cross n m = simp (ne_eqb _ _ n, ne_eqb _ _ m)
 
--- ---- its place in file order, and where its numbers begin: a, k and f are what the code has of its leading numbers
-
-module _ (i : FilterId) {a f : ℕ} where
-  pub order-luma : i.tag ≡ 2 → a ≡ i.aps → f ≡ i.filter → 25 * a + f ≡ order_of i
-  unfolding order_of
-  order-luma e p r = simp (eq-eqb _ _ e, p, r)
-
-  pub order-chroma : i.tag ≢ 2 → i.tag ≡ 3 → a ≡ i.aps → f ≡ i.filter → 200 + (8 * a + f) ≡ order_of i
-  unfolding order_of
-  order-chroma n e p r = simp (ne_eqb _ _ n, eq-eqb _ _ e, p, r)
-
-  pub order_cross : {k : ℕ} → i.tag ≢ 2 → i.tag ≢ 3 → a ≡ i.aps → k ≡ i.component → f ≡ i.filter
-      → 264 + (8 * a + (4 * k + f)) ≡ order_of i
-  unfolding order_of
-  order_cross n m p q r = simp (ne_eqb _ _ n, ne_eqb _ _ m, p, q, r)
-
-  pub start-luma : i.tag ≡ 2 → a ≡ i.aps → f ≡ i.filter → 752 * a + 24 * f ≡ start_of i
-  unfolding start_of
-  start-luma e p r = simp (eq-eqb _ _ e, p, r)
-
-  pub start-chroma : i.tag ≢ 2 → i.tag ≡ 3 → a ≡ i.aps → f ≡ i.filter → 752 * a + (600 + 12 * f) ≡ start_of i
-  unfolding start_of
-  start-chroma n e p r = simp (ne_eqb _ _ n, eq-eqb _ _ e, p, r)
-
-  pub start_cross : {k : ℕ} → i.tag ≢ 2 → i.tag ≢ 3 → a ≡ i.aps → k ≡ i.component → f ≡ i.filter
-      → 752 * a + (696 + (28 * k + 7 * f)) ≡ start_of i
-  unfolding start_of
-  start_cross n m p q r = simp (ne_eqb _ _ n, ne_eqb _ _ m, p, q, r)
-
 -- ---- whether its leading numbers are listed
 
 module _ (i : FilterId) where

@@ -2,6 +2,7 @@
 pub mod AcceptedFiles
 pub mod BankFiles
 pub mod ByTag
+pub mod Chains
 pub mod DecodedFields
 pub mod FieldFaults
 pub mod FieldRows

@@ -1,6 +1,5 @@
 -- The laws by which the reader meets its contract.
 pub mod FieldTests
-pub mod FieldFaults
 pub mod Steps
 pub mod Fills
 pub mod Readings

@@ -50,24 +50,6 @@ module _ (file : List ℕ) (n : ℕ) (ok : read_fault file n ≡ 0) where
       read-filters = rw (l, q) (read_faults file accepted.1).1
 
   -- the bank is filled with zeros before the filters are stored
-  module _ {old clear : List ℤ} (b : n ≡ length old) (c : Filled (pos 0) old (between 0 6016) (same (pos 0)) clear) where
-    pub read_cleared : length clear ≡ 6016
-    read_cleared = c.len ∙ (sym b ∙ read-size)
-
-    zeros : clear ≡ replicate 6016 (pos 0)
-    unfolding between
-    zeros =
-        ext_get_or (pos 0) clear (replicate 6016 (pos 0)) (read_cleared ∙ sym (length-replicate 6016 (pos 0)))
-        (λ x h.
-        let l = read_cleared in
-        let s = read-size in
-        c.at x (omega arith)
-        ∙ (ap (λ (t : Bool). cond t (pos 0) (get_or old x (pos 0))) (in_range x (omega arith))
-        ∙ sym (get_or-replicate 6016 x (pos 0) (pos 0) (omega arith))))
-      where
-        in_range : (x : ℕ) → x < 6016 → between 0 6016 x ≡ true
-        in_range x h = rw (le-leb 0 x (omega arith), lt-ltb x 6016 h)
-
-    pub read_stored : {new : List ℤ} → new ≡ filled clear (fields (drop 4 file) 0) → new ≡ read_bank file
-    unfolding read_bank
-    read_stored q = q ∙ ap (λ (z : List ℤ). filled z (fields (drop 4 file) 0)) zeros
+  pub read_stored : {new : List ℤ} → new ≡ filled (replicate n (pos 0)) (fields (drop 4 file) 0) → new ≡ read_bank file
+  unfolding read_bank
+  read_stored q = q ∙ rw read-size

@@ -8,21 +8,19 @@ use Prim.Native.Nat.{ℕ, suc, ◌+◌, ◌-◌, ◌<◌, ◌≤◌, ◌^◌}
 use native.Mathlib.Omega.{arith}
 use native.Mathlib.Numerals.{add-one}
 use borrow.Author.Tests.{eq-eqb, ne_eqb}
+use Rattle.std.specs.Prelude.{Option, Some, None, Ok, Err}
 use lib.ListN.{length, get_or, drop, length-drop, take, drop_of_length-le}
 use lib.Seq.{drop-drop, take_all}
 use Rattle.alf_spec.specs.declared.Fault.{Fault}
-use Rattle.alf_spec.specs.declared.Answer.{Answer}
-use Rattle.alf_spec.specs.declared.Answer.TheVariants.{Accepted, Rejected}
-use Rattle.alf_spec.specs.Answers.{fault_number, number}
+use Rattle.alf_spec.specs.Answers.{fault_number}
 use Rattle.alf_spec.specs.Faults.{unless}
-use Rattle.alf_spec.proofs.Answers.{numbered, accepts}
+use Rattle.alf_spec.proofs.Answers.{numbered}
 use Rattle.alf_bank.specs.declared.FilterId.{FilterId}
 use Rattle.alf_bank.specs.Filters.{order_of}
 use Rattle.alf_bank.specs.Reading.{length_of, id_of, field_fault, fields, first_of, filters_fault, fields_fault, read_fault}
 use Rattle.alf_bank.proofs.FieldFaults.{whole_reach, Good, good_of, depth_small}
 use Rattle.alf_bank.proofs.Fields.{fields_none, fields_step}
 use Rattle.alf_op_bank_read.specs.declared.Step.{Step}
-use Rattle.alf_op_bank_read.specs.declared.Step.TheVariants.{End, Faulty, Filter}
 use Rattle.alf_op_bank_read.specs.Fields.{Seen}
 use Rattle.alf_op_bank_read.proofs.FieldTests.{has_head, filter_reaches, has_leads}
 
@@ -44,86 +42,56 @@ decides f rest = rw (numbered f)
 
 -- ---- a loop over the fields: what a step says of those from its position on
 
-module _ (file : List ℕ) (at limit from : ℕ) {s : Step} (seen : Seen s file at limit from) where
-  pub seen_as : {t : Step} → s ≡ t → Seen t file at limit from
-  seen_as q = subst (λ (t : Step). Seen t file at limit from) q seen
-
+module _ (file : List ℕ) (at limit from : ℕ) where
   -- `all` is what all fields come to, and the fields from the position on come to the same
-  module _ {all : ℕ} (left : filters_fault limit from (fields (drop at file) 0) ≡ all) where
-    pub loop_end : s ≡ End → 0 ≡ all
-    unfolding filters_fault
-    loop_end q = sym (ap (filters_fault limit from) (at_end_lem file at (seen_as q))) ∙ left
+  pub loop_fault : (f : Fault) → Seen (Err f) file at limit from → {all : ℕ} → filters_fault limit from (fields (drop at file) 0) ≡ all
+      → fault_number f ≡ all
+  unfolding filters_fault
+  loop_fault f t left =
+      let later = filters_fault limit (suc (order_of (id_of (drop at file)))) (fields (drop (at + (3 + length_of (drop at file))) file) 0) in
+      sym (decides f later)
+      ∙ (ap (λ (n : ℕ). first_of n later) t.1 ∙ (sym (ap (filters_fault limit from) (at_field file at t.0)) ∙ left))
 
-    pub loop_fault : {f : Fault} → s ≡ Faulty f → fault_number f ≡ all
-    unfolding filters_fault
-    loop_fault {f} q =
-        let t = seen_as q in
-        let later = filters_fault limit (suc (order_of (id_of (drop at file)))) (fields (drop (at + (3 + length_of (drop at file))) file) 0) in
-        sym (decides f later)
-        ∙ (ap (λ (n : ℕ). first_of n later) t.1 ∙ (sym (ap (filters_fault limit from) (at_field file at t.0)) ∙ left))
+  module _ {o : Option Step} (seen : Seen (Ok o) file at limit from) where
+    pub seen_as : {t : Option Step} → o ≡ t → Seen (Ok t) file at limit from
+    seen_as q = subst (λ (t : Option Step). Seen (Ok t) file at limit from) q seen
 
-    pub loop_left : {a k : ℕ} → s ≡ Filter a k → filters_fault limit k (fields (drop a file) 0) ≡ all
-    unfolding filters_fault
-    loop_left q =
-        let t = seen_as q in
-        rw (t.2, t.3) (sym (ap (filters_fault limit from) (at_field file at t.0) ∙ rw t.1) ∙ left)
+    module _ {all : ℕ} (left : filters_fault limit from (fields (drop at file) 0) ≡ all) where
+      pub loop_end : o ≡ None → 0 ≡ all
+      unfolding filters_fault
+      loop_end q = sym (ap (filters_fault limit from) (at_end_lem file at (seen_as q))) ∙ left
 
-  pub loop_good : {a k : ℕ} → s ≡ Filter a k → Good limit from (drop at file)
-  loop_good q = good_of limit from (drop at file) (seen_as q).1
+      pub loop_left : {s : Step} → o ≡ Some s → filters_fault limit s.from (fields (drop s.at file) 0) ≡ all
+      unfolding filters_fault
+      loop_left q =
+          let t = seen_as q in
+          rw (t.2, t.3) (sym (ap (filters_fault limit from) (at_field file at t.0) ∙ rw t.1) ∙ left)
 
-  module _ {a k : ℕ} (q : s ≡ Filter a k) where
-    -- a field has bytes, and they are in the file
-    goes_on : (at < a) × (a ≤ length file)
-    goes_on =
-        let t = seen_as q in
-        let r = whole_reach (drop at file) (loop_good q).complete in
-        let l = length-drop at file in
-        (omega arith, omega arith)
+    pub loop_good : {s : Step} → o ≡ Some s → Good limit from (drop at file)
+    loop_good q = good_of limit from (drop at file) (seen_as q).1
 
-    pub loop_within : a ≤ length file
-    loop_within = goes_on.1
+    module _ {s : Step} (q : o ≡ Some s) where
+      -- its bytes are in the file
+      pub loop_within : s.at ≤ length file
+      loop_within =
+          let t = seen_as q in
+          let r = whole_reach (drop at file) (loop_good q).complete in
+          let l = length-drop at file in
+          omega arith
 
-    pub loop_falls : length file - a < length file - at
-    loop_falls = let t = goes_on in omega arith
+-- ---- a field that the judge accepts is a filter's
 
--- ---- the code's step: f is the part of the file from the position on, and a what the code says of the field
+module _ (f : List ℕ) (limit from : ℕ) (none : 0 ≡ field_fault false limit from f) where
+  good_field : Good limit from f
+  good_field = good_of limit from f (sym none)
 
-module _ (file : List ℕ) (at limit from : ℕ) {f : List ℕ} (is : f ≡ drop at file) (h : at < length file)
-    (a : Answer) (e : number a ≡ field_fault false limit from f) where
-  pub step_bad : {fault : Fault} → a ≡ Rejected fault → Seen (Faulty fault) file at limit from
-  step_bad q = (h, sym (ap number q) ∙ (e ∙ ap (field_fault false limit from) is))
+  pub good_head : 3 ≤ length f
+  good_head = has_head f good_field.complete
 
-  -- the field has no fault, so it is a filter's
-  module _ (q : a ≡ Accepted) where
-    none : field_fault false limit from f ≡ 0
-    none = accepts a e q
+  pub good_leads : 6 ≤ length f
+  good_leads = has_leads f (filter_reaches f good_field.complete good_field.known good_field.filter)
 
-    good_field : Good limit from f
-    good_field = good_of limit from f none
-
-    pub good_head : 3 ≤ length f
-    good_head = has_head f good_field.complete
-
-    pub good_leads : 6 ≤ length f
-    good_leads = has_leads f (filter_reaches f good_field.complete good_field.known good_field.filter)
-
-    -- i is the filter that the field names, k its place in file order, len the length that it states
-    pub step_good : {i : FilterId} {k len : ℕ} → i ≡ id_of f → k ≡ order_of i → len ≡ length_of f
-        → Seen (Filter (at + (3 + len)) (k + 1)) file at limit from
-    step_good ei ek el = (h, rw is at none, rw (el, is), rw (add-one, ek, ei, is))
-
--- ---- the whole file: a is what the code says of the first field
-
-module _ (file : List ℕ) (a : Answer) (e : number a ≡ field_fault true 0 0 file) (q : a ≡ Accepted) where
-  -- it is that of a bit depth of 8 to 12
-  small : (4 ≤ length file) × (8 ≤ get_or file 3 0) × (get_or file 3 0 ≤ 12) × (length_of file ≡ 1)
-  small = depth_small file 0 0 (accepts a e q)
-
-  pub depth_there : 4 ≤ length file
-  depth_there = small.0
-
-  pub depth_most : get_or file 3 0 ≤ 12
-  depth_most = small.2
+-- ---- the whole file
 
 module _ (file : List ℕ) (n : ℕ) where
   pub wrong_length : n ≢ 6016 → 5 ≡ read_fault file n
@@ -139,19 +107,20 @@ module _ (file : List ℕ) (n : ℕ) where
         fields_empty [] q = fields_none
         fields_empty (x ∷ l) q = absurd (omega (arith, q))
 
-    module _ (h : length file ≢ 0) (a : Answer) (e : number a ≡ field_fault true 0 0 file) where
-      read_is : read_fault file n ≡ first_of (number a) (filters_fault (2 ^ get_or file 3 0) 0 (fields (drop (3 + length_of file) file) 0))
+    module _ (h : length file ≢ 0) where
+      read_is : read_fault file n
+          ≡ first_of (field_fault true 0 0 file) (filters_fault (2 ^ get_or file 3 0) 0 (fields (drop (3 + length_of file) file) 0))
       unfolding read_fault unless fields_fault
-      read_is = rw (eq-eqb _ _ b, fields_step file (omega arith), e)
+      read_is = rw (eq-eqb _ _ b, fields_step file (omega arith))
 
-      pub first_faulty : {f : Fault} → a ≡ Rejected f → fault_number f ≡ read_fault file n
-      first_faulty {f} q =
+      pub first_faulty : (f : Fault) → fault_number f ≡ field_fault true 0 0 file → fault_number f ≡ read_fault file n
+      first_faulty f e =
           let later = filters_fault (2 ^ get_or file 3 0) 0 (fields (drop (3 + length_of file) file) 0) in
-          sym (decides f later) ∙ (ap (λ (m : ℕ). first_of m later) (sym (ap number q)) ∙ sym read_is)
+          sym (decides f later) ∙ (ap (λ (m : ℕ). first_of m later) e ∙ sym read_is)
 
-      pub rest_decides : a ≡ Accepted → {limit r : ℕ} → limit ≡ 2 ^ get_or file 3 0 → r ≡ filters_fault limit 0 (fields (drop 4 file) 0)
-          → r ≡ read_fault file n
-      rest_decides q l d = d ∙ sym (read_is ∙ rw (ap number q, (small file a e q).3, l))
+      pub rest_decides : 0 ≡ field_fault true 0 0 file → {limit r : ℕ} → limit ≡ 2 ^ get_or file 3 0
+          → r ≡ filters_fault limit 0 (fields (drop 4 file) 0) → r ≡ read_fault file n
+      rest_decides e l d = d ∙ sym (read_is ∙ rw (← e, (depth_small file 0 0 (sym e)).3, l))
 
 -- ---- a part of a file that runs to its end
 

@@ -5,38 +5,26 @@ ghost use Rattle.alf_bank.specs.Filters.{shape_of, count_of, start_of};
 ghost use Rattle.alf_bank.specs.Reading.{tag_of, id_of, signed_byte, coeff_at, clip_at, field_numbers, fields, filters_fault, filled};
 ghost use Rattle.alf_op_bank_read.specs.Fields.{Reaches, Storable};
 
-use crate::Step;
 use crate::fields::{clip_word, id_of};
-use crate::judge::bytes_from;
-use crate::reader::step_in;
-use alf_bank::filters::{shape_of, start_of};
+use crate::reader::BankReader;
+use alf_bank::filters::{count_of, shape_of, start_of};
 
 // A byte in two's complement.
+#[tactic(auto, unfolding(alf_bank::specs::Reading::signed_byte))]
 fn signed_byte(b: u8) -> i16
     ensures { result ≡ signed_byte b }
 {
-    if b < 128 {
-        return b as i16;
-    }
-    b as i16 - 256
+    i16::from(b.cast_signed())
 }
 
 // Coefficient j of a filter's field.
+#[tactic(auto, unfolding(alf_bank::specs::Reading::coeff_at))]
 fn coeff_number(field: &[u8], j: usize) -> i16
     requires { Reaches field.now × (j < (shape_of (tag_of field.now)).coeffs) }
     ensures { result ≡ coeff_at field.now j }
 {
-    let shape = shape_of(field[0]);
-    let k = shape.leads + j;
+    let k = shape_of(field[0]).leads + j;
     signed_byte(field[3 + k])
-}
-
-// A clip as a number of a bank in memory.
-fn as_number(n: usize) -> i16
-    requires { n < 32768 }
-    ensures { result ≡ pos n }
-{
-    n as i16
 }
 
 // Clip j of a filter's field, as a number of a bank in memory.
@@ -44,7 +32,7 @@ fn clip_number(field: &[u8], j: usize) -> i16
     requires { Storable field.now × (j < (shape_of (tag_of field.now)).clips) }
     ensures { result ≡ pos (clip_at field.now j) }
 {
-    as_number(clip_word(field, j))
+    clip_word(field, j) as i16
 }
 
 // Number j of a filter's field: the coefficients come first, then the clips.
@@ -52,12 +40,12 @@ fn number_at(field: &[u8], j: usize) -> i16
     requires { Storable field.now × (j < count_of (shape_of (tag_of field.now))) }
     ensures { result ≡ get_or (field_numbers field.now) j (pos 0) }
 {
-    let shape = shape_of(field[0]);
-    let coeffs = shape.coeffs;
+    let coeffs = shape_of(field[0]).coeffs;
     if j < coeffs {
-        return coeff_number(field, j);
+        coeff_number(field, j)
+    } else {
+        clip_number(field, j - coeffs)
     }
-    clip_number(field, j - coeffs)
 }
 
 // Stores the numbers of a filter's field in a bank, from place `start` on.
@@ -65,12 +53,8 @@ fn fill_field(field: &[u8], bank: &mut [i16], start: usize)
     requires { Storable field.now × (start + count_of (shape_of (tag_of field.now)) ≤ length bank.old) }
     ensures { bank.new ≡ overwrite start (field_numbers field.now) bank.old }
 {
-    let shape = shape_of(field[0]);
-    let count = shape.coeffs + shape.clips;
-    let mut j = 0;
-    while j < count {
+    for j in 0..count_of(field[0]) {
         bank[start + j] = number_at(field, j);
-        j += 1;
     }
 }
 
@@ -81,9 +65,8 @@ fn store_at(file: &[u8], at: usize, bank: &mut [i16])
     ensures { bank.new ≡ overwrite (start_of (id_of (drop at file.now)))
         (field_numbers (drop at file.now)) bank.old }
 {
-    let field = bytes_from(file, at);
-    let start = start_of(id_of(field));
-    fill_field(field, bank, start);
+    let field = &file[at..];
+    fill_field(field, bank, start_of(id_of(field)));
 }
 
 // Stores the filters of all fields after tag 1 of an accepted file.
@@ -94,22 +77,9 @@ pub fn fill_bank(file: &[u8], limit: usize, bank: &mut [i16])
 {
     let mut at = 4;
     let mut from = 0;
-    loop {
-        match step_in(file, at, limit, from) {
-            Step::End => {
-                return;
-            }
-            Step::Faulty(_) => {
-                return;
-            }
-            Step::Filter {
-                at: next,
-                from: order,
-            } => {
-                store_at(file, at, bank);
-                at = next;
-                from = order;
-            }
-        }
+    while let Ok(Some(step)) = (BankReader { file, at }).step(limit, from) {
+        store_at(file, at, bank);
+        at = step.at;
+        from = step.from;
     }
 }

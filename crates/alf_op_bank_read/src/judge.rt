@@ -1,56 +1,48 @@
 // Judging a bank file, field by field.
-ghost use Rattle.std.specs.Prelude.{◌≡◌, true, false, ◌+◌, ◌≤◌, ◌<◌, ◌^◌, length, get_or, drop};
-ghost use Rattle.alf_spec.specs.Faults.{depth_valid};
-ghost use Rattle.alf_spec.specs.Answers.{number};
+ghost use Rattle.std.specs.Prelude.{◌≡◌, true, false, ◌+◌, ◌≤◌, ◌<◌, ◌^◌, length, get_or, IfOk};
+ghost use Rattle.alf_spec.specs.Answers.{number_of};
 ghost use Rattle.alf_bank.specs.Reading.{is_depth, in_place, field_fault};
-ghost use Rattle.alf_op_bank_read.specs.Fields.{Reaches, Seen};
+ghost use Rattle.alf_op_bank_read.specs.Fields.{Reaches};
 
-use crate::Step;
-use crate::fields::{
-    clips_valid, id_of, id_valid, is_listed, is_whole, length_of, order_of, zero_field,
-};
-use alf_spec::{Answer, Fault};
+use crate::fields::{clips_valid, id_of, id_valid, is_listed, is_whole, order_of, zero_field};
+use alf_spec::Fault;
 use alf_validate_layout::picture::depth_valid;
 
 // Whether the tag of a field is 1, which is that of the bit depth.
-pub fn is_depth(field: &[u8]) -> bool
+#[tactic(auto, unfolding(alf_bank::specs::Reading::is_depth))]
+fn is_depth(field: &[u8]) -> bool
     requires { 3 ≤ length field.now }
     ensures { result ≡ is_depth field.now }
 {
     field[0] == 1
 }
 
-// Whether the depth in a field of tag 1 is 8 to 12.
-fn has_valid_depth(field: &[u8]) -> bool
-    requires { 4 ≤ length field.now }
-    ensures { result ≡ depth_valid (get_or field.now 3 0) }
-{
-    depth_valid(field[3])
-}
-
-// The lowest fault of a first field that is not empty. No clip is judged before the bit depth is known.
-pub fn first_fault(field: &[u8]) -> Answer
-    ensures { number result ≡ field_fault true 0 0 field.now }
+#[tactic(auto, unfolding(alf_bank::specs::Reading::field_fault, alf_bank::specs::Reading::proper, alf_bank::specs::Reading::in_place, alf_spec::specs::Faults::unless), using(crate::proofs::FieldTests::has_head, crate::proofs::FieldTests::has_leads, crate::proofs::FieldTests::filter_reaches, alf_bank::proofs::FieldFaults::has_depth))]
+pub fn first_depth(field: &[u8]) -> Result<u8, Fault>
+    ensures fault { number_of result ≡ field_fault true 0 0 field.now }
+    ensures depth { IfOk result (λ d. (d ≡ get_or field.now 3 0) × (d ≤ 12) × (4 ≤ length field.now)) }
 {
     if !is_whole(field) {
-        return Answer::Rejected(Fault::FieldCutShort);
+        return Err(Fault::FieldCutShort);
     }
     if !is_listed(field) {
-        return Answer::Rejected(Fault::FieldUnlisted);
+        return Err(Fault::FieldUnlisted);
     }
     if is_depth(field) {
-        if has_valid_depth(field) {
-            return Answer::Accepted;
+        let depth = field[3];
+        if depth_valid(depth) {
+            return Ok(depth);
         }
-        return Answer::Rejected(Fault::BitDepth);
+        return Err(Fault::BitDepth);
     }
     if id_valid(id_of(field)) {
-        return Answer::Rejected(Fault::FieldOutOfPlace);
+        return Err(Fault::FieldOutOfPlace);
     }
-    Answer::Rejected(Fault::FieldUnlisted)
+    Err(Fault::FieldUnlisted)
 }
 
 // Whether a filter's field is in place: from place `from` of file order on, and not all zero.
+#[tactic(auto, unfolding(alf_bank::specs::Reading::in_place), using(crate::proofs::FieldTests::has_leads))]
 fn in_place(field: &[u8], from: usize) -> bool
     requires { Reaches field.now × (is_depth field.now ≡ false) }
     ensures { result ≡ in_place false from field.now }
@@ -59,31 +51,32 @@ fn in_place(field: &[u8], from: usize) -> bool
 }
 
 // The lowest fault of a field after the first. Clips go up to the limit; filters come from place `from` of file order on.
-pub fn filter_fault(field: &[u8], limit: usize, from: usize) -> Answer
-    ensures { number result ≡ field_fault false limit from field.now }
+#[tactic(auto, unfolding(alf_bank::specs::Reading::field_fault, alf_bank::specs::Reading::proper, alf_bank::specs::Reading::in_place, alf_spec::specs::Faults::unless), using(crate::proofs::FieldTests::has_head, crate::proofs::FieldTests::has_leads, crate::proofs::FieldTests::filter_reaches, alf_bank::proofs::FieldFaults::has_depth))]
+pub fn filter_fault(field: &[u8], limit: usize, from: usize) -> Result<(), Fault>
+    ensures { number_of result ≡ field_fault false limit from field.now }
 {
     if !is_whole(field) {
-        return Answer::Rejected(Fault::FieldCutShort);
+        return Err(Fault::FieldCutShort);
     }
     if !is_listed(field) {
-        return Answer::Rejected(Fault::FieldUnlisted);
+        return Err(Fault::FieldUnlisted);
     }
     if is_depth(field) {
-        if has_valid_depth(field) {
-            return Answer::Rejected(Fault::FieldOutOfPlace);
+        if depth_valid(field[3]) {
+            return Err(Fault::FieldOutOfPlace);
         }
-        return Answer::Rejected(Fault::BitDepth);
+        return Err(Fault::BitDepth);
     }
     if !clips_valid(field, limit) {
-        return Answer::Rejected(Fault::Filter);
+        return Err(Fault::Filter);
     }
     if !id_valid(id_of(field)) {
-        return Answer::Rejected(Fault::FieldUnlisted);
+        return Err(Fault::FieldUnlisted);
     }
     if !in_place(field, from) {
-        return Answer::Rejected(Fault::FieldOutOfPlace);
+        return Err(Fault::FieldOutOfPlace);
     }
-    Answer::Accepted
+    Ok(())
 }
 
 // The largest clip that a bit depth allows.
@@ -92,31 +85,4 @@ pub fn clip_limit(depth: u8) -> usize
     ensures { result ≡ 2 ^ depth }
 {
     1usize << depth
-}
-
-// The bytes of a file from a position on.
-pub fn bytes_from(file: &[u8], at: usize) -> &[u8]
-    requires { at ≤ length file.now }
-    ensures { result.now ≡ drop at file.now }
-{
-    &file[at..]
-}
-
-// What stands at a position of a file after tag 1. Clips go up to the limit; filters come from place `from` of file order on.
-pub fn step_at(file: &[u8], at: usize, limit: usize, from: usize) -> Step
-    ensures { Seen result file.now at limit from }
-{
-    if file.len() <= at {
-        return Step::End;
-    }
-    let field = bytes_from(file, at);
-    let answer = filter_fault(field, limit, from);
-    if let Answer::Rejected(fault) = answer {
-        return Step::Faulty(fault);
-    }
-    let order = order_of(id_of(field));
-    Step::Filter {
-        at: at + (3 + length_of(field)),
-        from: order + 1,
-    }
 }

@@ -6,94 +6,64 @@ mod fill;
 mod judge;
 mod reader;
 
-ghost use Rattle.std.specs.Prelude.{◌≡◌, ◌≤◌, length, drop};
+ghost use Rattle.std.specs.Prelude.{◌≡◌, ◌≤◌, length, drop, IfOk};
 ghost use Rattle.std.proofs.Math.Option.{some, none};
-ghost use Rattle.alf_spec.specs.Answers.{number, kept};
-ghost use Rattle.alf_bank.specs.Reading.{filters_fault, fields, read_fault, read_depth, read_bank, read_number, depth_read};
+ghost use Rattle.alf_spec.specs.Answers.{number_of, answer_of, kept};
+ghost use Rattle.alf_bank.specs.Reading.{filters_fault, fields, read_fault, read_depth, read_bank};
 
-use alf_bank::BankRead;
-use alf_lists::fill;
-use alf_spec::{Answer, Fault};
+use alf_spec::Fault;
 use fill::fill_bank;
-use judge::{clip_limit, first_fault};
-use reader::step_in;
+use judge::{clip_limit, first_depth};
+use reader::BankReader;
 
-// What stands at a position of a file after tag 1.
+// What comes after a filter's field: the position behind it, and the first place in file order that may come next.
 #[derive(Clone, Copy)]
-pub enum Step {
-    // Nothing: the file ends.
-    End,
-    // A field with its lowest fault.
-    Faulty(Fault),
-    // A filter's field: the position after it, and the first place in file order that may come next.
-    Filter { at: usize, from: usize },
+pub struct Step {
+    pub at: usize,
+    pub from: usize,
 }
 
 // The lowest fault of the first faulty field after tag 1. Clips go up to the limit.
-fn filters_fault(file: &[u8], limit: usize) -> Answer
+fn filters_fault(file: &[u8], limit: usize) -> Result<(), Fault>
     requires { 4 ≤ length file.now }
-    ensures { number result ≡ filters_fault limit 0 (fields (drop 4 file.now) 0) }
+    ensures { number_of result ≡ filters_fault limit 0 (fields (drop 4 file.now) 0) }
 {
     let mut at = 4;
     let mut from = 0;
-    loop {
-        match step_in(file, at, limit, from) {
-            Step::End => {
-                return Answer::Accepted;
-            }
-            Step::Faulty(fault) => {
-                return Answer::Rejected(fault);
-            }
-            Step::Filter {
-                at: next,
-                from: order,
-            } => {
-                at = next;
-                from = order;
-            }
-        }
+    while let Some(step) = (BankReader { file, at }).step(limit, from)? {
+        at = step.at;
+        from = step.from;
     }
+    Ok(())
 }
 
-// The bit depth of an accepted file.
-fn depth_of(file: &[u8]) -> u8
-    requires { 4 ≤ length file.now }
-    ensures { result ≡ read_depth file.now }
-{
-    file[3]
-}
-
-// The fault of a file that is to be stored in a bank of some length.
-fn judge_file(file: &[u8], bank_length: usize) -> Answer
-    ensures { number result ≡ read_fault file.now bank_length }
+// The bit depth of a file that is to be stored in a bank of some length, or the file's fault.
+#[tactic(auto, unfolding(alf_bank::specs::Reading::read_depth))]
+fn judge_file(file: &[u8], bank_length: usize) -> Result<u8, Fault>
+    ensures fault { number_of result ≡ read_fault file.now bank_length }
+    ensures depth { IfOk result (λ d. (d ≡ read_depth file.now) × (d ≤ 12)) }
 {
     if bank_length != 6016 {
-        return Answer::Rejected(Fault::Length);
+        return Err(Fault::Length);
     }
-    if file.len() == 0 {
-        return Answer::Rejected(Fault::FieldOutOfPlace);
+    if file.is_empty() {
+        return Err(Fault::FieldOutOfPlace);
     }
-    let first = first_fault(file);
-    if let Answer::Rejected(fault) = first {
-        return Answer::Rejected(fault);
-    }
-    filters_fault(file, clip_limit(file[3]))
+    let depth = first_depth(file)?;
+    filters_fault(file, clip_limit(depth))?;
+    Ok(depth)
 }
 
 // Stores the filters of a file in a bank and returns the bit depth, or rejects the file for the lowest fault of its first faulty field. A
 // file that is rejected leaves the bank as it was; one that is accepted is stored whole.
-pub fn read_bank(file: &[u8], bank: &mut [i16]) -> BankRead
+pub fn read_bank(file: &[u8], bank: &mut [i16]) -> Result<u8, Fault>
     ensures { let fault = read_fault file.now (length bank.old) in
-        (read_number result ≡ fault)
-        × (depth_read result ≡ kept fault (some (read_depth file.now)) none)
+        (number_of result ≡ fault)
+        × (answer_of result ≡ kept fault (some (read_depth file.now)) none)
         × (bank.new ≡ kept fault (read_bank file.now) bank.old) }
 {
-    let answer = judge_file(file, bank.len());
-    if let Answer::Rejected(fault) = answer {
-        return BankRead::Rejected(fault);
-    }
-    fill(bank, 0, 6016, 0);
-    let depth = depth_of(file);
+    let depth = judge_file(file, bank.len())?;
+    bank.fill(0);
     fill_bank(file, clip_limit(depth), bank);
-    BankRead::Read(depth)
+    Ok(depth)
 }

@@ -1,10 +1,11 @@
-// The reading state, which holds the lent file and a position in it. Its functions are thin: they make it, and take it apart to call
-// `step_at` on the slice and the numbers. `step_in` has plain parameters, so whoever calls it knows nothing of the state.
+// The reading state, which holds the lent file and a position in it, and what stands there.
 ghost use Rattle.std.specs.Prelude.{◌≡◌};
 ghost use Rattle.alf_op_bank_read.specs.Fields.{Seen};
 
 use crate::Step;
-use crate::judge::step_at;
+use crate::fields::{id_of, length_of, order_of};
+use crate::judge::filter_fault;
+use alf_spec::Fault;
 
 // A bank file that is being read, and a position in it.
 #[derive(Clone, Copy)]
@@ -13,23 +14,20 @@ pub struct BankReader<'a> {
     pub at: usize,
 }
 
-// The reading state at a position of a file.
-fn reader_at<'a>(file: &'a [u8], at: usize) -> BankReader<'a>
-    ensures { (result.file ≡ file.entry) × (result.at ≡ at) }
-{
-    BankReader { file, at }
-}
-
-// What stands at the position of a reading state.
-fn next_step<'a>(reader: BankReader<'a>, limit: usize, from: usize) -> Step
-    ensures { Seen result reader.entry.file.now reader.entry.at limit from }
-{
-    step_at(reader.file, reader.at, limit, from)
-}
-
-// What stands at a position of a file after tag 1, by way of the reading state.
-pub fn step_in(file: &[u8], at: usize, limit: usize, from: usize) -> Step
-    ensures { Seen result file.now at limit from }
-{
-    next_step(reader_at(file, at), limit, from)
+impl<'a> BankReader<'a> {
+    // What stands at a position after tag 1: nothing where the file ends, else a filter's field, or its lowest fault. Clips go up to the
+    // limit; filters come from place `from` of file order on.
+    pub fn step(self, limit: usize, from: usize) -> Result<Option<Step>, Fault>
+        ensures { Seen result self.entry.file.now self.entry.at limit from }
+    {
+        if self.file.len() <= self.at {
+            return Ok(None);
+        }
+        let field = &self.file[self.at..];
+        filter_fault(field, limit, from)?;
+        Ok(Some(Step {
+            at: self.at + (3 + length_of(field)),
+            from: order_of(id_of(field)) + 1,
+        }))
+    }
 }

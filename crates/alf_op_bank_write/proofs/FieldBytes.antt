@@ -1,16 +1,16 @@
 -- The bytes of a filter's field one by one, as the code makes them. Assumes nothing.
 use mathlib.Core.Path.{◌≡◌, refl, sym, ◌∙◌, ap}
 use mathlib.Core.Logic.{◌≢◌}
-use mathlib.Core.Bool.{Bool, true, false, true≢false}
+use mathlib.Core.Bool.{Bool, true, false, cond, true≢false}
 use mathlib.Core.List.{List, [], append-nil}
 use Prim.Native.Nat.{ℕ, suc, ◌+◌, ◌-◌, ◌*◌, ◌/◌, ◌%◌, ◌<◌, ◌≤◌, ◌^◌}
 use native.Mathlib.Omega.{arith}
-use borrow.Author.Tests.{le-ltb, eq-eqb, ltb-true, eqb-true, ne_eqb, leb-true}
+use borrow.Author.Tests.{le-ltb, eq-eqb, ltb-true, eqb-true, eqb-false, ne_eqb, leb-true}
 use lib.Dec.{eqb, leb, T}
 use lib.IntN.{ℤ, pos, negsuc, nat_abs, ◌+ℤ◌, pos-ne-negsuc}
 use lib.Signed.{lt_z, non_neg, mag}
 use lib.ListN.{length, get_or}
-use mir.Syntax.{w16}
+use mir.Syntax.{w8, w16}
 use mir.Val.{SFits, to_z, of_z}
 use mir.Facts.{to_z-of_z}
 use Rattle.alf_spec.specs.Lists.{all_below}
@@ -26,41 +26,12 @@ use Rattle.alf_bank.proofs.FieldRows.{field_head, head_length, coeff_bytes, clip
 use Rattle.alf_bank.proofs.WrittenFiles.{no_magnitude}
 use Rattle.alf_op_bank_write.specs.FieldBytes.{head_of, field_bytes, Writable}
 
--- ---- the head: tag, length and leading numbers, byte k
+-- ---- the leading numbers, byte k of the head
 
 module _ (i : FilterId) where
-  pub head_tag : {k : ℕ} → k ≡ 0 → i.tag ≡ get_or (head_of i) k 0
-  unfolding head_of
-  head_tag e = rw e
-
-  pub head_high : {k : ℕ} → k ≡ 1 → 0 ≡ get_or (head_of i) k 0
-  unfolding head_of
-  head_high e = rw e
-
-  pub head_low : {k a b c : ℕ} → k ≡ 2 → a ≡ (shape_of i.tag).leads → b ≡ (shape_of i.tag).coeffs → c ≡ (shape_of i.tag).clips
-      → a + b + 2 * c ≡ get_or (head_of i) k 0
-  unfolding head_of
-  head_low e ea eb ec = rw (e, ea, eb, ec)
-
   pub head_aps : {k : ℕ} → k ≡ 3 → i.aps ≡ get_or (head_of i) k 0
   unfolding head_of leads_of
   head_aps e = rw e (cond_three (λ (leads : List ℕ). i.aps ≡ get_or leads 0 0) (eqb i.tag 2) (eqb i.tag 3) _ _ _ refl refl refl)
-
-  -- the second leading number by tag
-  pub second-luma : i.tag ≡ 2 → i.filter ≡ get_or (head_of i) 4 0
-  unfolding head_of leads_of
-  second-luma e = simp (eq-eqb _ _ e)
-
-  pub second-chroma : i.tag ≢ 2 → i.tag ≡ 3 → i.filter ≡ get_or (head_of i) 4 0
-  unfolding head_of leads_of
-  second-chroma n e = simp (ne_eqb _ _ n, eq-eqb _ _ e)
-
-  pub second_cross : i.tag ≢ 2 → i.tag ≢ 3 → i.component ≡ get_or (head_of i) 4 0
-  unfolding head_of leads_of
-  second_cross n m = simp (ne_eqb _ _ n, ne_eqb _ _ m)
-
-  pub head_second : {k r : ℕ} → k ≡ 4 → r ≡ get_or (head_of i) 4 0 → r ≡ get_or (head_of i) k 0
-  head_second e q = rw e q
 
   -- only a cross-component filter has a third
   pub head_third : (k : ℕ) → 5 ≤ k → k < 3 + (shape_of i.tag).leads → i.filter ≡ get_or (head_of i) k 0
@@ -74,32 +45,19 @@ module _ (i : FilterId) where
 
 -- ---- numbers
 
-pub coeff_abs : (z : ℤ) → coeff_valid z ≡ true → nat_abs z ≤ 128
+-- a coefficient fits a signed byte, and the bits of that byte are those that are written
+pub coeff_fits : (z : ℤ) → coeff_valid z ≡ true → SFits w8 z
 unfolding coeff_valid
-coeff_abs (pos n) e = let h = leb-true n 127 e in omega arith
-coeff_abs (negsuc n) e = let h = leb-true n 127 (both (leb n 127) true e).0 in omega arith
+coeff_fits (pos n) e = let h = leb-true n 127 e in record { sfits = omega arith }
+coeff_fits (negsuc n) e = let h = leb-true n 127 (both (leb n 127) true e).0 in record { sfits = omega arith }
 
-pub negative_byte : (z : ℤ) → coeff_valid z ≡ true → lt_z z (pos 0) ≡ true → z +ℤ pos 256 ≡ pos (byte_of z)
+pub coeff_bits : (z : ℤ) → coeff_valid z ≡ true → of_z w8 z ≡ byte_of z
 unfolding coeff_valid byte_of
-negative_byte (pos n) e t = absurd (omega (arith, ltb-true n 0 t))
-negative_byte (negsuc n) e t =
-    let h = leb-true n 127 (both (leb n 127) true e).0 in rw (le-ltb 256 (suc n) (omega arith)) (ap pos (omega arith))
-
-pub positive_byte : (z : ℤ) → lt_z z (pos 0) ≡ false → nat_abs z ≡ byte_of z
-unfolding byte_of
-positive_byte (pos n) t = refl
-positive_byte (negsuc n) t = absurd (true≢false t)
-
-pub not_negative : (z : ℤ) → lt_z z (pos 0) ≡ false → T (non_neg z)
-not_negative (pos n) t = tt
-not_negative (negsuc n) t = absurd (true≢false t)
-
-pub whole-number : (z : ℤ) → pos (nat_abs z) ≡ z → T (non_neg z)
-whole-number (pos n) e = tt
-whole-number (negsuc n) e = absurd (pos-ne-negsuc (suc n) n e)
+coeff_bits (pos n) e = refl
+coeff_bits (negsuc n) e = let h = leb-true n 127 (both (leb n 127) true e).0 in omega arith
 
 -- a number is zero where its bits are
-bits_zero : (z : ℤ) → SFits w16 z → eqb (of_z w16 z) 0 ≡ eqb (nat_abs z) 0
+pub bits_zero : (z : ℤ) → SFits w16 z → eqb (of_z w16 z) 0 ≡ eqb (nat_abs z) 0
 bits_zero z f =
     same_test (eqb (of_z w16 z) 0) (eqb (nat_abs z) 0)
     (λ e. eq-eqb (nat_abs z) 0 (ap nat_abs (sym (to_z-of_z f) ∙ ap (to_z w16) (eqb-true (of_z w16 z) 0 e))))
@@ -111,23 +69,10 @@ module _ (bank : List ℤ) (i : FilterId) (j : ℕ) {s : ℕ} (e : s ≡ start_o
   unfolding filter_number
   number_is = returned w16 h (ap (λ (n : ℕ). get_or bank (n + j) (pos 0)) e)
 
-  pub zero_number-is : eqb (of_z w16 (get_or bank (s + j) (pos 0))) 0 ≡ zero_at bank i j
-  unfolding zero_at filter_number
-  zero_number-is = bits_zero (get_or bank (s + j) (pos 0)) (record { sfits = h }) ∙ rw e
-
 pub zeros_all : (bank : List ℤ) (i : FilterId) {n : ℕ} → n ≡ count_of (shape_of i.tag) → {r : Bool} → r ≡ all_below n (zero_at bank i)
     → r ≡ all_zero bank i
 unfolding all_zero
 zeros_all bank i e q = rw e at q
-
--- a clip, which is number b + j
-module _ {bank : List ℤ} {i : FilterId} (ok : Writable bank i) {b j : ℕ} (e : b ≡ (shape_of i.tag).coeffs)
-    (h : j < (shape_of i.tag).clips) where
-  pub clip-whole : pos (nat_abs (filter_number bank i (b + j))) ≡ filter_number bank i (b + j)
-  clip-whole = rw e (ok.clips j h)
-
-  pub clip-is : {r : ℕ} → r ≡ nat_abs (filter_number bank i (b + j)) → (r ≡ nat_abs (filter_number bank i (b + j))) × (r < 65536)
-  clip-is q = let s : nat_abs (filter_number bank i (b + j)) ≤ 4096 = rw e (ok.small j h) in (q, omega arith)
 
 -- ---- the bytes of a field
 
@@ -145,11 +90,7 @@ module _ (bank : List ℤ) (i : FilterId) where
       let h = head_length i in
       rw bytes_row (row-length (field_head i) [] s.coeffs s.clips (coeff_bytes bank i) (clip_words bank i) ∙ omega arith)
 
-  -- the code has the numbers a, b and c of leading numbers, coefficients and clips
-  pub bytes_many : {a b c : ℕ} → a ≡ (shape_of i.tag).leads → b ≡ (shape_of i.tag).coeffs → c ≡ (shape_of i.tag).clips
-      → 3 + (a + b + 2 * c) ≡ length (field_bytes bank i)
-  bytes_many ea eb ec = let l = bytes_length in omega arith
-
+  -- the code has the numbers a and b of leading numbers and coefficients
   pub byte_head : {k a r : ℕ} → a ≡ (shape_of i.tag).leads → k < 3 + a → r ≡ get_or (head_of i) k 0 → r ≡ get_or (field_bytes bank i) k 0
   unfolding head_of
   byte_head {k} e h q =
@@ -197,3 +138,11 @@ module _ (bank : List ℤ) (i : FilterId) where
       clip-low z =
           let n : 3 + s.leads + (s.coeffs + (2 * m + 1)) ≡ k = omega arith in
           rw word_is (sym (rw n at (low-at m (omega arith))))
+
+      -- the byte that the code takes by whether it is the first of the clip
+      pub byte_clip : {r : ℕ} → r ≡ cond (eqb ((k - (3 + a) - b) % 2) 0) (w / 256) (w % 256) → r ≡ get_or (field_bytes bank i) k 0
+      byte_clip {r} q = by_test (eqb ((k - (3 + a) - b) % 2) 0) refl
+        where
+          by_test : (t : Bool) → eqb ((k - (3 + a) - b) % 2) 0 ≡ t → r ≡ get_or (field_bytes bank i) k 0
+          by_test true e = rw e at q ∙ clip-high (eqb-true _ 0 e)
+          by_test false e = rw e at q ∙ clip-low (eqb-false _ 0 e)

@@ -26,11 +26,6 @@ use Rattle.alf_bank.proofs.WrittenFiles.{field_none}
 use Rattle.alf_op_bank_write.specs.FieldBytes.{field_bytes, Writable}
 use Rattle.alf_op_bank_write.proofs.FieldBytes.{bytes_length}
 
-pub depth_written : (depth : ℕ) (l : List ℕ) → 4 ≤ length l
-    → set (set (set (set l 0 1) 1 0) 2 1) 3 depth ≡ overwrite 0 (1 ∷ 0 ∷ 1 ∷ depth ∷ []) l
-unfolding overwrite
-depth_written depth l h = sets-eq (1 ∷ 0 ∷ 1 ∷ depth ∷ []) l 0 h
-
 -- ---- one filter
 
 field_bytes_lem : (bank : List ℤ) (i : FilterId) → all_zero bank i ≡ false → filter_field bank i ≡ field_bytes bank i
@@ -58,16 +53,12 @@ module _ (bank : List ℤ) (k at : ℕ) (old : List ℕ) {i : FilterId} (ei : i 
   pub skipped_file : z ≡ true → old ≡ overwrite at (filter_field bank (filter_at k)) old
   skipped_file q = rw (empty q) (overwrite_none at old)
 
-  pub written_at : z ≡ false → {a b c : ℕ} → a ≡ (shape_of i.tag).leads → b ≡ (shape_of i.tag).coeffs → c ≡ (shape_of i.tag).clips
-      → at + (3 + (a + b + 2 * c)) ≡ at + length (filter_field bank (filter_at k))
-  written_at q ea eb ec = rw (full q, ea, eb, ec, ei) (omega (arith, bytes_length bank (filter_at k)))
+  pub written_at : z ≡ false → {size : ℕ} → size ≡ size_of (shape_of i.tag) → at + (3 + size) ≡ at + length (filter_field bank (filter_at k))
+  written_at q e = rw (full q, e, ei) (omega (arith, bytes_length bank (filter_at k)))
 
   pub written_file : z ≡ false → {new : List ℕ} → new ≡ overwrite at (field_bytes bank i) old
       → new ≡ overwrite at (filter_field bank (filter_at k)) old
   written_file q w = w ∙ rw (full q, ei)
-
-pub writable_is : (bank : List ℤ) (k : ℕ) {i : FilterId} → i ≡ filter_at k → Writable bank (filter_at k) → Writable bank i
-writable_is bank k e w = rw e w
 
 -- ---- all filters
 
@@ -171,14 +162,7 @@ module _ {bank : List ℤ} {old : List ℕ} where
           is = rw fields-next joined;
         }
 
-  pub wrote_all : {k at : ℕ} {file : List ℕ} → Progress bank old k at file → 328 ≤ k
-      → (at ≡ 4 + length (filter_fields 328 0 bank)) × (file ≡ overwrite 4 (filter_fields 328 0 bank) old)
-  wrote_all w h = let e = le_antisymm w.within h in (w.place ∙ rw e, w.is ∙ rw e)
-
 -- ---- the whole file
-
-pub depth-at_most : (depth : ℕ) {r : Bool} → r ≡ depth_valid depth → not r ≡ false → depth ≤ 12
-depth-at_most depth e q = (within_bounds 8 12 depth (took e q)).1
 
 -- a bank that is accepted at a depth, for a buffer of so many bytes
 module _ (depth : ℕ) (bank : List ℤ) (room : ℕ) (ok : write_fault depth bank room ≡ 0) where

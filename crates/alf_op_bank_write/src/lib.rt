@@ -5,14 +5,13 @@ mod fields;
 
 ghost use Rattle.std.specs.Prelude.{◌≡◌, ◌&&◌, [], ◌∷◌, ℕ, ◌+◌, ◌≤◌, ◌<◌, eqb, leb, length};
 ghost use Rattle.std.proofs.Math.Option.{some, none};
-ghost use Rattle.alf_spec.specs.Answers.{number, kept};
+ghost use Rattle.alf_spec.specs.Answers.{number_of, answer_of, kept};
 ghost use Rattle.alf_lists.specs.Overwrite.{overwrite};
 ghost use Rattle.alf_bank.specs.Filters.{filter_at};
-ghost use Rattle.alf_bank.specs.Writing.{filter_fields, bank_file, write_fault, write_number, length_written};
+ghost use Rattle.alf_bank.specs.Writing.{filter_fields, bank_file, write_fault};
 ghost use Rattle.alf_op_bank_write.specs.FieldBytes.{Writable};
 
-use alf_bank::BankWritten;
-use alf_spec::{Answer, Fault};
+use alf_spec::Fault;
 use alf_validate_layout::picture::depth_valid;
 use alf_validate_tables::filters::bank_valid;
 use fields::write_filter;
@@ -24,23 +23,19 @@ fn write_filters(bank: &[i16], file: &mut [u8]) -> usize
         × (file.new ≡ overwrite 4 (filter_fields 328 0 bank.now) file.old) }
 {
     let mut at = 4;
-    let mut k = 0;
-    while k < 328 {
+    for k in 0..328 {
         at = write_filter(bank, k, file, at);
-        k += 1;
     }
     at
 }
 
 // Writes the depth's field.
+#[tactic(auto, unfolding(alf_lists::specs::Overwrite::overwrite))]
 fn write_depth(depth: u8, file: &mut [u8])
     requires { 4 ≤ length file.old }
     ensures { file.new ≡ overwrite 0 (1 ∷ 0 ∷ 1 ∷ depth ∷ []) file.old }
 {
-    file[0] = 1;
-    file[1] = 0;
-    file[2] = 1;
-    file[3] = depth;
+    file[..4].copy_from_slice(&[1, 0, 1, depth]);
 }
 
 // Whether the bank is of its length and the buffer long enough.
@@ -51,34 +46,32 @@ fn lengths_fit(bank_length: usize, room: usize) -> bool
 }
 
 // What is wrong with a bank at a depth, for a buffer of so many bytes.
-fn judge_bank(bit_depth: u8, bank: &[i16], room: usize) -> Answer
-    ensures { number result ≡ write_fault bit_depth bank.now room }
+#[tactic(auto, unfolding(alf_bank::specs::Writing::write_fault, alf_spec::specs::Faults::unless))]
+fn judge_bank(bit_depth: u8, bank: &[i16], room: usize) -> Result<(), Fault>
+    ensures { number_of result ≡ write_fault bit_depth bank.now room }
 {
     if !depth_valid(bit_depth) {
-        return Answer::Rejected(Fault::BitDepth);
+        return Err(Fault::BitDepth);
     }
     if !lengths_fit(bank.len(), room) {
-        return Answer::Rejected(Fault::Length);
+        return Err(Fault::Length);
     }
     if !bank_valid(bit_depth, bank) {
-        return Answer::Rejected(Fault::Filter);
+        return Err(Fault::Filter);
     }
-    Answer::Accepted
+    Ok(())
 }
 
 // The lowest fault, or the length of the file. What lies beyond that length stays, and so does all where the bank is refused.
-pub fn write_bank(bit_depth: u8, bank: &[i16], file: &mut [u8]) -> BankWritten
+pub fn write_bank(bit_depth: u8, bank: &[i16], file: &mut [u8]) -> Result<u32, Fault>
     ensures { let made = bank_file bit_depth bank.now in
         let fault = write_fault bit_depth bank.now (length file.old) in
-        (write_number result ≡ fault)
-        × (length_written result ≡ kept fault (some (length made)) none)
+        (number_of result ≡ fault)
+        × (answer_of result ≡ kept fault (some (length made)) none)
         × (file.new ≡ kept fault (overwrite 0 made file.old) file.old) }
 {
-    let answer = judge_bank(bit_depth, bank, file.len());
-    if let Answer::Rejected(fault) = answer {
-        return BankWritten::Rejected(fault);
-    }
+    judge_bank(bit_depth, bank, file.len())?;
     write_depth(bit_depth, file);
     let length = write_filters(bank, file);
-    BankWritten::Written(length as u32)
+    Ok(length as u32)
 }
