@@ -2,7 +2,7 @@
 #![tactic(auto)]
 
 use alf::number;
-use alf_print::{print, print_answer, print_isolation, print_map, print_plane};
+use alf_print::{print_isolated, print_map, print_outcome, print_plane};
 use alf_spec::{FilterInput, Layout};
 use example_pictures::drawing::draw_chroma;
 use example_pictures::layout::{
@@ -45,21 +45,21 @@ fn chroma_input<'a>(bank: &'a [i16], luma: &'a [u16], chroma: &'a [u16]) -> Filt
 // The class map of a picture, so many blocks a row.
 pub fn show_classes(
     rt: &impl Print,
-    text: &[u8],
+    text: &str,
     layout: &Layout,
     luma: &[u16],
     map: &mut [u8],
     columns: usize,
 ) -> io::Result<()> {
     let answer = alf::classes(layout, luma, map);
-    print_answer(rt, text, number(&answer))?;
+    print_outcome(rt, text, number(&answer))?;
     print_map(rt, map, columns)
 }
 
 // The luma filter of the picture, with these parameters of the CTBs.
 fn show_luma(
     rt: &impl Print,
-    text: &[u8],
+    text: &str,
     bank: &[i16],
     ctb_params: &[u8],
     luma: &[u16],
@@ -81,7 +81,7 @@ fn show_luma(
         chroma: &[],
     };
     let answer = alf::luma(&input, output);
-    print_answer(rt, text, number(&answer))
+    print_outcome(rt, text, number(&answer))
 }
 
 // The chroma filter of a component.
@@ -93,7 +93,7 @@ fn show_chroma(
     output: &mut [u16],
 ) -> io::Result<()> {
     let answer = alf::chroma(component, &chroma_input(bank, &[], chroma), output);
-    print_answer(rt, b" filtered", number(&answer))
+    print_outcome(rt, " filtered", number(&answer))
 }
 
 // The cross-component filter of a component.
@@ -106,14 +106,14 @@ fn show_corrected(
     output: &mut [u16],
 ) -> io::Result<()> {
     let answer = alf::cross_component(component, &chroma_input(bank, luma, chroma), output);
-    print_answer(rt, b" corrected from luma", number(&answer))
+    print_outcome(rt, " corrected from luma", number(&answer))
 }
 
 // Both filters of a component that is drawn with bars in so many columns.
 fn show_component(
     rt: &impl Print,
     component: u8,
-    name: &[u8],
+    name: &str,
     columns: usize,
     bank: &[i16],
     luma: &[u16],
@@ -121,33 +121,32 @@ fn show_component(
     let mut chroma = [0u16; 400];
     let mut filtered = [0u16; 400];
     draw_chroma(columns, &mut chroma);
-    print(rt, name)?;
-    print(rt, b" before\n")?;
+    println!(rt; "{name} before")?;
     print_plane(rt, &chroma, 20)?;
-    print(rt, name)?;
+    print!(rt; "{name}")?;
     show_chroma(rt, component, bank, &chroma, &mut filtered)?;
     print_plane(rt, &filtered, 20)?;
-    print(rt, name)?;
+    print!(rt; "{name}")?;
     show_corrected(rt, component, bank, luma, &filtered, &mut chroma)?;
     print_plane(rt, &chroma, 20)
 }
 
 // A region is five rows of five 8 by 8 blocks.
-fn show_isolation(rt: &impl Print, text: &[u8], region: &[u8]) -> io::Result<()> {
+fn show_isolation(rt: &impl Print, text: &str, region: &[u8]) -> io::Result<()> {
     let answer = alf::isolated(&layout(), region);
-    print_isolation(rt, text, number(&answer), answer)
+    print_isolated(rt, text, number(&answer), answer)
 }
 
 // Two regions, of which one is isolated.
 fn show_regions(rt: &impl Print) -> io::Result<()> {
     show_isolation(
         rt,
-        b"region: the first CTB left of the virtual column",
+        "region: the first CTB left of the virtual column",
         b"\x01\x01\x00\x00\x00\x01\x01\x00\x00\x00\x01\x01\x00\x00\x00\x01\x01\x00\x00\x00\x00\x00\x00\x00\x00",
     )?;
     show_isolation(
         rt,
-        b"region: the last CTB",
+        "region: the last CTB",
         b"\x00\x00\x00\x00\x00\x00\x00\x00\x00\x00\x00\x00\x00\x00\x00\x00\x00\x00\x00\x00\x00\x00\x00\x00\x01",
     )
 }
@@ -159,32 +158,32 @@ fn show_rejected(rt: &impl Print, bank: &[i16], luma: &[u16]) -> io::Result<()> 
     params[3] = 17;
     show_luma(
         rt,
-        b"luma with a set that the slice does not have",
+        "luma with a set that the slice does not have",
         bank,
         &params,
         luma,
         &mut output,
     )?;
-    print(rt, b"the first row of its output, as it was\n")?;
+    println!(rt; "the first row of its output, as it was")?;
     print_plane(rt, &output[0..40], 40)
 }
 
 // The filters of luma, of Cb and of Cr.
 fn show_filters(rt: &impl Print, bank: &[i16], luma: &[u16]) -> io::Result<()> {
     let mut output = [0u16; 1600];
-    show_luma(rt, b"luma filtered", bank, &CTB_PARAMS, luma, &mut output)?;
+    show_luma(rt, "luma filtered", bank, &CTB_PARAMS, luma, &mut output)?;
     print_plane(rt, &output, 40)?;
-    show_component(rt, 0, b"Cb", 18, bank, luma)?;
-    show_component(rt, 1, b"Cr", 11, bank, luma)
+    show_component(rt, 0, "Cb", 18, bank, luma)?;
+    show_component(rt, 1, "Cr", 11, bank, luma)
 }
 
 // All operations, in turn, and last an input that is rejected.
 pub fn show_picture(rt: &impl Print, bank: &[i16], luma: &[u16], map: &mut [u8]) -> io::Result<()> {
-    print(rt, b"luma before\n")?;
+    println!(rt; "luma before")?;
     print_plane(rt, luma, 40)?;
     show_classes(
         rt,
-        b"class:transpose of each 4 by 4 block",
+        "class:transpose of each 4 by 4 block",
         &layout(),
         luma,
         map,

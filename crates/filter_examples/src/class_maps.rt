@@ -7,7 +7,7 @@ use std::io;
 // The map with these virtual columns: one tile, slice and subpicture, of two by two CTBs.
 fn show_map(
     rt: &impl Print,
-    text: &[u8],
+    text: &str,
     virtual_columns: &[u16],
     luma: &[u16],
     map: &mut [u8],
@@ -31,21 +31,21 @@ pub fn show(rt: &impl Print) -> io::Result<()> {
     draw_textures(&mut luma);
     show_map(
         rt,
-        b"class:transpose of each 4 by 4 block: flat, upright bars, slanted bars, level bars",
+        "class:transpose of each 4 by 4 block: flat, upright bars, slanted bars, level bars",
         &[],
         &luma,
         &mut map,
     )?;
     show_map(
         rt,
-        b"the same with a virtual column at 24",
+        "the same with a virtual column at 24",
         &[24],
         &luma,
         &mut map,
     )?;
     show_map(
         rt,
-        b"a virtual column at 28 is rejected, and the map stays as it was",
+        "a virtual column at 28 is rejected, and the map stays as it was",
         &[28],
         &luma,
         &mut map,

@@ -1,5 +1,4 @@
 // A picture through every operation.
-use alf_print::print;
 use example_pictures::drawing::draw_luma;
 use example_pictures::tables::fill_bank;
 use example_runs::show_picture;
@@ -12,9 +11,6 @@ pub fn show(rt: &impl Print) -> io::Result<()> {
     let mut map = [255u8; 100];
     fill_bank(&mut bank);
     draw_luma(&mut luma);
-    print(
-        rt,
-        b"40 by 40, four CTBs: two slices, a virtual column at 16, the second CTB not listed\n",
-    )?;
+    println!(rt; "40 by 40, four CTBs: two slices, a virtual column at 16, the second CTB not listed")?;
     show_picture(rt, &bank, &luma, &mut map)
 }

@@ -3,36 +3,27 @@ ghost use Rattle.std.specs.Prelude.{◌≤◌, length};
 
 use crate::show_fault;
 use alf::{read_bank, write_bank};
-use alf_print::{print, print_labelled};
 use alf_spec::Fault;
 use std::io;
 
 fn show_answer(rt: &impl Print, answer: Result<u8, Fault>) -> io::Result<()> {
     match answer {
-        Ok(depth) => {
-            print_labelled(rt, b"bit depth ", depth as u32)?;
-            print(rt, b"\n")
-        }
+        Ok(depth) => println!(rt; "bit depth {depth}"),
         Err(fault) => show_fault(rt, fault),
     }
 }
 
 // What the reader says of a file.
-fn show_file(rt: &impl Print, text: &[u8], file: &[u8]) -> io::Result<()> {
+fn show_file(rt: &impl Print, text: &str, file: &[u8]) -> io::Result<()> {
     let mut bank = [0i16; 6016];
-    print(rt, b"  ")?;
-    print(rt, text)?;
-    print(rt, b" -> ")?;
+    print!(rt; "  {text} -> ")?;
     show_answer(rt, read_bank(file, &mut bank))
 }
 
 // What the writer says of a bank at bit depth 10.
-fn show_written(rt: &impl Print, text: &[u8], answer: Result<u32, Fault>) -> io::Result<()> {
+fn show_written(rt: &impl Print, text: &str, answer: Result<u32, Fault>) -> io::Result<()> {
     match answer {
-        Ok(length) => {
-            print_labelled(rt, text, length)?;
-            print(rt, b"\n")
-        }
+        Ok(length) => println!(rt; "{text}{length}"),
         Err(fault) => show_fault(rt, fault),
     }
 }
@@ -49,12 +40,12 @@ fn show_again(rt: &impl Print, file: &[u8]) -> io::Result<()> {
         return Ok(());
     }
     let mut bank = [255i16; 6016];
-    print(rt, b"  read back -> ")?;
+    print!(rt; "  read back -> ")?;
     show_answer(rt, read_bank(first_bytes(file, 17), &mut bank))?;
     let mut again = [0u8; 10508];
     show_written(
         rt,
-        b"  written again -> bytes ",
+        "  written again -> bytes ",
         write_bank(10, &bank, &mut again),
     )
 }
@@ -67,7 +58,7 @@ fn show_round_trip(rt: &impl Print) -> io::Result<()> {
     let mut file = [255u8; 10508];
     show_written(
         rt,
-        b"  one filter -> bytes ",
+        "  one filter -> bytes ",
         write_bank(10, &bank, &mut file),
     )?;
     show_again(rt, &file)
@@ -75,14 +66,14 @@ fn show_round_trip(rt: &impl Print) -> io::Result<()> {
 
 // Files with no filter.
 fn show_without_filter(rt: &impl Print) -> io::Result<()> {
-    show_file(rt, b"no byte", b"")?;
-    show_file(rt, b"a bit depth alone", b"\x01\x00\x01\x08")?;
-    show_file(rt, b"bit depth 7", b"\x01\x00\x01\x07")?;
-    show_file(rt, b"a field cut short", b"\x01\x00\x01\x08\x04\x00")?;
-    show_file(rt, b"tag 5", b"\x01\x00\x01\x08\x05\x00\x00")?;
+    show_file(rt, "no byte", b"")?;
+    show_file(rt, "a bit depth alone", b"\x01\x00\x01\x08")?;
+    show_file(rt, "bit depth 7", b"\x01\x00\x01\x07")?;
+    show_file(rt, "a field cut short", b"\x01\x00\x01\x08\x04\x00")?;
+    show_file(rt, "tag 5", b"\x01\x00\x01\x08\x05\x00\x00")?;
     show_file(
         rt,
-        b"a second bit depth",
+        "a second bit depth",
         b"\x01\x00\x01\x08\x01\x00\x01\x08",
     )
 }
@@ -91,12 +82,12 @@ fn show_without_filter(rt: &impl Print) -> io::Result<()> {
 fn show_cross_component(rt: &impl Print) -> io::Result<()> {
     show_file(
         rt,
-        b"component 2",
+        "component 2",
         b"\x01\x00\x01\x08\x04\x00\x0a\x00\x02\x00\x01\x00\x00\x00\x00\x00\x00",
     )?;
     show_file(
         rt,
-        b"an all-zero filter",
+        "an all-zero filter",
         b"\x01\x00\x01\x08\x04\x00\x0a\x00\x01\x00\x00\x00\x00\x00\x00\x00\x00",
     )
 }
@@ -105,12 +96,12 @@ fn show_cross_component(rt: &impl Print) -> io::Result<()> {
 fn show_clips(rt: &impl Print) -> io::Result<()> {
     show_file(
         rt,
-        b"clip 256 of 8 bits",
+        "clip 256 of 8 bits",
         b"\x01\x00\x01\x08\x03\x00\x14\x00\x00\x00\x00\x00\x00\x00\x00\x01\x00\x00\x00\x00\x00\x00\x00\x00\x00\x00\x00",
     )?;
     show_file(
         rt,
-        b"clip 257 of 8 bits",
+        "clip 257 of 8 bits",
         b"\x01\x00\x01\x08\x03\x00\x14\x00\x00\x00\x00\x00\x00\x00\x00\x01\x01\x00\x00\x00\x00\x00\x00\x00\x00\x00\x00",
     )
 }

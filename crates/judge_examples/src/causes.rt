@@ -2,29 +2,21 @@
 // at 16.
 use crate::show_fault;
 use alf::clip_causes;
-use alf_print::{print, print_cause, print_number};
 use alf_spec::{Layout, Picture, SideCauses};
 use example_pictures::layout::plain;
 use std::io;
 
 // Top, bottom, left, right.
 fn show_sides(rt: &impl Print, causes: SideCauses) -> io::Result<()> {
-    print_cause(rt, causes.top)?;
-    print(rt, b"; ")?;
-    print_cause(rt, causes.bottom)?;
-    print(rt, b"; ")?;
-    print_cause(rt, causes.left)?;
-    print(rt, b"; ")?;
-    print_cause(rt, causes.right)?;
-    print(rt, b"\n")
+    let top = causes.top;
+    let bottom = causes.bottom;
+    let left = causes.left;
+    let right = causes.right;
+    println!(rt; "{top}; {bottom}; {left}; {right}")
 }
 
 fn show_at(rt: &impl Print, x: u32, y: u32) -> io::Result<()> {
-    print(rt, b"  (")?;
-    print_number(rt, x)?;
-    print(rt, b",")?;
-    print_number(rt, y)?;
-    print(rt, b") -> ")?;
+    print!(rt; "  ({x},{y}) -> ")?;
     let layout = Layout {
         picture: Picture {
             slice_count: 2,

@@ -2,7 +2,6 @@
 ghost use Rattle.std.specs.Prelude.{◌<◌};
 
 use alf::number;
-use alf_print::{print, print_number};
 use alf_spec::{Fault, Filter, FilterInput, Layout, Picture};
 use alf_validate::{judge_filter, judge_isolation};
 use example_pictures::layout::plain;
@@ -120,13 +119,9 @@ fn judged_region(last: u8) -> Result<(), Fault> {
 
 // What is answered where this cause alone is broken, and where all from it to 13 are.
 fn show_number(rt: &impl Print, n: u32) -> io::Result<()> {
-    print(rt, b"  ")?;
-    print_number(rt, n)?;
-    print(rt, b" -> ")?;
-    print_number(rt, number(&judged(n, n, 0, 0, 0, 0)) as u32)?;
-    print(rt, b", ")?;
-    print_number(rt, number(&judged(n, 13, 0, 0, 0, 0)) as u32)?;
-    print(rt, b"\n")
+    let alone = number(&judged(n, n, 0, 0, 0, 0));
+    let all = number(&judged(n, 13, 0, 0, 0, 0));
+    println!(rt; "  {n} -> {alone}, {all}")
 }
 
 // A line for each number from 1 to 13.
@@ -140,11 +135,9 @@ fn show_numbers(rt: &impl Print) -> io::Result<()> {
 // A line for each number, and one for what is sound.
 pub fn show_all(rt: &impl Print) -> io::Result<()> {
     show_numbers(rt)?;
-    print(rt, b"  14 -> ")?;
-    print_number(rt, number(&judged_region(2)) as u32)?;
-    print(rt, b"\n  none -> ")?;
-    print_number(rt, number(&judged(15, 15, 0, 0, 0, 0)) as u32)?;
-    print(rt, b", ")?;
-    print_number(rt, number(&judged_region(1)) as u32)?;
-    print(rt, b"\n")
+    let region = number(&judged_region(2));
+    println!(rt; "  14 -> {region}")?;
+    let sound = number(&judged(15, 15, 0, 0, 0, 0));
+    let sound_region = number(&judged_region(1));
+    println!(rt; "  none -> {sound}, {sound_region}")
 }

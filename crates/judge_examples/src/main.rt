@@ -8,7 +8,6 @@ mod damaged;
 mod rows;
 
 use alf::{fault_number, isolated, number};
-use alf_print::{print, print_number};
 use alf_spec::{Fault, Layout};
 use example_pictures::layout::plain;
 use std::io;
@@ -16,23 +15,19 @@ use std::io;
 // What the isolation test answers.
 fn show(rt: &impl Print, answer: Result<bool, Fault>) -> io::Result<()> {
     match answer {
-        Ok(true) => print(rt, b"isolated\n"),
-        Ok(false) => print(rt, b"not isolated\n"),
+        Ok(true) => println!(rt; "isolated"),
+        Ok(false) => println!(rt; "not isolated"),
         Err(fault) => show_fault(rt, fault),
     }
 }
 
 fn show_fault(rt: &impl Print, fault: Fault) -> io::Result<()> {
-    print(rt, b"rejected, number ")?;
-    print_number(rt, fault_number(fault) as u32)?;
-    print(rt, b"\n")
+    let number = fault_number(fault);
+    println!(rt; "rejected, number {number}")
 }
 
 // A picture so wide, with one row of CTBs of 128 that have these tile columns, slices and subpictures, and a region of it.
 fn show_width(rt: &impl Print, width: u32, numbers: &[u8], region: &[u8]) -> io::Result<()> {
-    print(rt, b"  ")?;
-    print_number(rt, width)?;
-    print(rt, b" -> ")?;
     let layout = Layout {
         picture: plain(width, 8, 7),
         virtual_columns: &[],
@@ -43,9 +38,8 @@ fn show_width(rt: &impl Print, width: u32, numbers: &[u8], region: &[u8]) -> io:
         subpic_map: numbers,
         subpic_across: &[1; 64],
     };
-    let answer = isolated(&layout, region);
-    print_number(rt, number(&answer) as u32)?;
-    print(rt, b"\n")
+    let number = number(&isolated(&layout, region));
+    println!(rt; "  {width} -> {number}")
 }
 
 // Two subpictures side by side in one tile and slice, no virtual boundary, left switch off, right on. A region is four rows of eight
@@ -67,10 +61,7 @@ fn show_half(rt: &impl Print, region: &[u8]) -> io::Result<()> {
 }
 
 fn main(rt: HostRuntime) -> io::Result<()> {
-    print(
-        &rt,
-        b"the number answered for a picture width, 0 where it is accepted\n",
-    )?;
+    println!(&rt; "the number answered for a picture width, 0 where it is accepted")?;
     let ctb = [0u8; 1];
     let ctbs = [0u8; 32];
     let block = [0u8; 1];
@@ -80,37 +71,22 @@ fn main(rt: HostRuntime) -> io::Result<()> {
     show_width(&rt, 0, &ctb, &block)?;
     show_width(&rt, 12, &ctb, &block)?;
     show_width(&rt, 4104, &ctbs, &blocks)?;
-    print(
-        &rt,
-        b"two subpictures side by side, left switch off, right on\n  left: ",
-    )?;
+    print!(&rt; "two subpictures side by side, left switch off, right on\n  left: ")?;
     show_half(
         &rt,
         b"\x01\x01\x01\x01\x00\x00\x00\x00\x01\x01\x01\x01\x00\x00\x00\x00\x01\x01\x01\x01\x00\x00\x00\x00\x01\x01\x01\x01\x00\x00\x00\x00",
     )?;
-    print(&rt, b"  right: ")?;
+    print!(&rt; "  right: ")?;
     show_half(
         &rt,
         b"\x00\x00\x00\x00\x01\x01\x01\x01\x00\x00\x00\x00\x01\x01\x01\x01\x00\x00\x00\x00\x01\x01\x01\x01\x00\x00\x00\x00\x01\x01\x01\x01",
     )?;
-    print(
-        &rt,
-        b"the number answered where this cause alone is broken, and where all from it to 13 are\n",
-    )?;
+    println!(&rt; "the number answered where this cause alone is broken, and where all from it to 13 are")?;
     damaged::show_all(&rt)?;
-    print(
-        &rt,
-        b"the number answered where this alone is broken, 0 where it is sound\n",
-    )?;
+    println!(&rt; "the number answered where this alone is broken, 0 where it is sound")?;
     rows::show_rows(&rt)?;
-    print(
-        &rt,
-        b"the causes at a sample's top, bottom, left and right\n",
-    )?;
+    println!(&rt; "the causes at a sample's top, bottom, left and right")?;
     causes::show_causes(&rt)?;
-    print(
-        &rt,
-        b"a bank as a file, and what the reader says of files\n",
-    )?;
+    println!(&rt; "a bank as a file, and what the reader says of files")?;
     banks::show_banks(&rt)
 }

@@ -3,24 +3,20 @@ ghost use Rattle.std.specs.Prelude.{◌<◌};
 
 use crate::damaged::judged;
 use alf::number;
-use alf_print::{print, print_number};
 use alf_spec::{Fault, Filter, FilterInput, Layout, Picture};
 use alf_validate::{judge_filter, judge_isolation};
 use example_pictures::layout::plain;
 use std::io;
 
-fn show_answer(rt: &impl Print, text: &[u8], answer: Result<(), Fault>) -> io::Result<()> {
-    print(rt, b"  ")?;
-    print(rt, text)?;
-    print(rt, b" -> ")?;
-    print_number(rt, number(&answer) as u32)?;
-    print(rt, b"\n")
+fn show_answer(rt: &impl Print, text: &str, answer: Result<(), Fault>) -> io::Result<()> {
+    let number = number(&answer);
+    println!(rt; "  {text} -> {number}")
 }
 
 // The isolation test of a picture with CTBs of 32, in one slice and subpicture.
 fn show_layout(
     rt: &impl Print,
-    text: &[u8],
+    text: &str,
     width: u32,
     height: u32,
     virtual_columns: &[u16],
@@ -46,7 +42,7 @@ fn show_layout(
 fn show_virtual_columns(rt: &impl Print) -> io::Result<()> {
     show_layout(
         rt,
-        b"three virtual columns",
+        "three virtual columns",
         160,
         8,
         &[8, 40, 72],
@@ -57,7 +53,7 @@ fn show_virtual_columns(rt: &impl Print) -> io::Result<()> {
     )?;
     show_layout(
         rt,
-        b"four virtual columns",
+        "four virtual columns",
         160,
         8,
         &[8, 40, 72, 104],
@@ -69,7 +65,7 @@ fn show_virtual_columns(rt: &impl Print) -> io::Result<()> {
 }
 
 // Two by two CTBs of one tile column, whose tile rows are these.
-fn show_tile_rows(rt: &impl Print, text: &[u8], tile_rows: &[u8], region: &[u8]) -> io::Result<()> {
+fn show_tile_rows(rt: &impl Print, text: &str, tile_rows: &[u8], region: &[u8]) -> io::Result<()> {
     show_layout(rt, text, 40, 40, &[], &[0; 2], tile_rows, &[0; 4], region)
 }
 
@@ -77,7 +73,7 @@ fn show_tile_rows(rt: &impl Print, text: &[u8], tile_rows: &[u8], region: &[u8])
 // entry of the fixed map, and nothing else broken.
 fn show_luma(
     rt: &impl Print,
-    text: &[u8],
+    text: &str,
     at: usize,
     parameter: u8,
     coefficient: i16,
@@ -89,7 +85,7 @@ fn show_luma(
 }
 
 // The Cb filter of one CTB in 4:2:0, whose last chroma sample is this.
-fn show_chroma(rt: &impl Print, text: &[u8], sample: u16) -> io::Result<()> {
+fn show_chroma(rt: &impl Print, text: &str, sample: u16) -> io::Result<()> {
     let mut chroma = [0u16; 16];
     chroma[15] = sample;
     let input = FilterInput {
@@ -120,34 +116,34 @@ fn show_chroma(rt: &impl Print, text: &[u8], sample: u16) -> io::Result<()> {
 
 // Of the CTB parameters under chroma mark 0 only the luma flag and the luma set may be other than 0.
 fn show_parameters(rt: &impl Print) -> io::Result<()> {
-    show_luma(rt, b"a luma flag under chroma mark 0", 0, 1, 0, 0)?;
-    show_luma(rt, b"a Cb flag", 1, 1, 0, 0)?;
-    show_luma(rt, b"a Cr flag", 2, 1, 0, 0)?;
-    show_luma(rt, b"a luma set", 3, 15, 0, 0)?;
-    show_luma(rt, b"a Cb alternative", 4, 1, 0, 0)?;
-    show_luma(rt, b"a Cr alternative", 5, 1, 0, 0)?;
-    show_luma(rt, b"a Cb cross-component index", 6, 1, 0, 0)?;
-    show_luma(rt, b"a Cr cross-component index", 7, 1, 0, 0)
+    show_luma(rt, "a luma flag under chroma mark 0", 0, 1, 0, 0)?;
+    show_luma(rt, "a Cb flag", 1, 1, 0, 0)?;
+    show_luma(rt, "a Cr flag", 2, 1, 0, 0)?;
+    show_luma(rt, "a luma set", 3, 15, 0, 0)?;
+    show_luma(rt, "a Cb alternative", 4, 1, 0, 0)?;
+    show_luma(rt, "a Cr alternative", 5, 1, 0, 0)?;
+    show_luma(rt, "a Cb cross-component index", 6, 1, 0, 0)?;
+    show_luma(rt, "a Cr cross-component index", 7, 1, 0, 0)
 }
 
 // The ranges of fixed coefficients and of the fixed map's entries.
 fn show_fixed(rt: &impl Print) -> io::Result<()> {
-    show_luma(rt, b"fixed coefficient -128", 0, 0, -128, 0)?;
-    show_luma(rt, b"fixed coefficient -129", 0, 0, -129, 0)?;
-    show_luma(rt, b"fixed coefficient 127", 0, 0, 127, 0)?;
-    show_luma(rt, b"fixed coefficient 128", 0, 0, 128, 0)?;
-    show_luma(rt, b"fixed map entry 63", 0, 0, 0, 63)?;
-    show_luma(rt, b"fixed map entry 64", 0, 0, 0, 64)
+    show_luma(rt, "fixed coefficient -128", 0, 0, -128, 0)?;
+    show_luma(rt, "fixed coefficient -129", 0, 0, -129, 0)?;
+    show_luma(rt, "fixed coefficient 127", 0, 0, 127, 0)?;
+    show_luma(rt, "fixed coefficient 128", 0, 0, 128, 0)?;
+    show_luma(rt, "fixed map entry 63", 0, 0, 0, 63)?;
+    show_luma(rt, "fixed map entry 64", 0, 0, 0, 64)
 }
 
 pub fn show_rows(rt: &impl Print) -> io::Result<()> {
-    show_tile_rows(rt, b"a region of 24 blocks for 25", &[0, 0], &[0; 24])?;
+    show_tile_rows(rt, "a region of 24 blocks for 25", &[0, 0], &[0; 24])?;
     show_virtual_columns(rt)?;
-    show_tile_rows(rt, b"tile rows 0, 1", &[0, 1], &[0; 25])?;
-    show_tile_rows(rt, b"tile rows 0, 2", &[0, 2], &[0; 25])?;
-    show_tile_rows(rt, b"tile rows 1, 1", &[1, 1], &[0; 25])?;
+    show_tile_rows(rt, "tile rows 0, 1", &[0, 1], &[0; 25])?;
+    show_tile_rows(rt, "tile rows 0, 2", &[0, 2], &[0; 25])?;
+    show_tile_rows(rt, "tile rows 1, 1", &[1, 1], &[0; 25])?;
     show_parameters(rt)?;
     show_fixed(rt)?;
-    show_chroma(rt, b"chroma sample 255 of 8 bits", 255)?;
-    show_chroma(rt, b"chroma sample 256 of 8 bits", 256)
+    show_chroma(rt, "chroma sample 255 of 8 bits", 255)?;
+    show_chroma(rt, "chroma sample 256 of 8 bits", 256)
 }
