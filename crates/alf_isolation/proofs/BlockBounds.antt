@@ -1,8 +1,8 @@
 -- What the isolation test reads lies in the region: a side that is not disabled has a block across. Assumes nothing.
 use mathlib.Core.Path.{◌≡◌, ap}
-use mathlib.Core.Bool.{Bool, true, false, not, ◌&&◌, ◌||◌}
+use mathlib.Core.Bool.{Bool, true, false, not, ◌&&◌}
 use mathlib.Core.List.{List}
-use Prim.Native.Nat.{ℕ, ◌+◌, ◌-◌, ◌*◌, ◌/◌, ◌%◌, ◌≤◌, ◌<◌}
+use Prim.Native.Nat.{ℕ, ◌+◌, ◌*◌, ◌/◌, ◌%◌, ◌≤◌, ◌<◌}
 use native.Mathlib.Nat.{mul_comm, mul-le-mul, mul-le-mul_right}
 use native.Mathlib.Omega.{arith}
 use lib.Dec.{ltb}
@@ -13,29 +13,10 @@ use Rattle.alf_spec.specs.declared.Picture.{Picture}
 use Rattle.alf_spec.specs.declared.Sides.{Sides}
 use Rattle.alf_spec.specs.Lists.{all_below}
 use Rattle.alf_spec.specs.Boundary.{disables}
-use Rattle.alf_spec.proofs.Tests.{both, neither}
+use Rattle.alf_spec.proofs.Tests.{both}
 use Rattle.alf_isolation.specs.declared.steps.BlockSides.{BlockSides}
 use Rattle.alf_isolation.specs.Steps.{step_open, row_sides, block_sides, blocks_along, block_test, row_test, ctb_test, BlocksOf, RowIn}
 use Rattle.alf_isolation.specs.Steps.{BlockIn}
-
--- ---- diagonal steps lead to a block of the region
-
-module _ {n columns k : ℕ} {s : BlockSides} (b : BlockIn n columns k s) where
-  pub upper_left_lem : (s.left || (s.top || s.upper_left)) ≡ false → columns + 1 ≤ k
-  upper_left_lem e =
-      let p = neither s.left _ e in
-      b.upper_left p.0 (neither s.top _ p.1).0
-
-  pub lower_left : (s.left || s.bottom) ≡ false → k + (columns - 1) < n
-  lower_left e = omega (arith, b.wide, b.bottom (neither s.left _ e).1)
-
-  pub upper_right : (s.right || s.top) ≡ false → columns - 1 ≤ k
-  upper_right e = omega (arith, b.top (neither s.right _ e).1)
-
-  pub lower_right_lem : (s.right || (s.bottom || s.lower_right)) ≡ false → k + (columns + 1) < n
-  lower_right_lem e =
-      let p = neither s.right _ e in
-      b.lower_right p.0 (neither s.bottom _ p.1).0
 
 -- ---- the blocks of a row, the rows of a region
 
@@ -46,11 +27,8 @@ open_within size ctb list disabled b e =
     let p = both (ltb 0 b) (ltb b size) (both (ltb 0 b && ltb b size) _ e).0 in
     (ltb-true 0 b p.0, ltb-true b size p.1)
 
--- a block that is open before it is not the first, and one that is open after it is not the last
+-- a block that is open after it is not the last
 module _ (size ctb : ℕ) (list : List ℕ) (disabled : Bool) (x : ℕ) where
-  block_before : not (step_open size ctb list disabled (8 * x)) ≡ false → 1 ≤ x
-  block_before e = omega (arith, open_within size ctb list disabled (8 * x) (not-false _ e))
-
   block_after : size % 8 ≡ 0 → not (step_open size ctb list disabled (8 * x + 8)) ≡ false → x + 2 ≤ size / 8
   block_after whole e = omega (arith, open_within size ctb list disabled (8 * x + 8) (not-false _ e))
 
@@ -62,17 +40,11 @@ block_in {width} {ctb} {n} {from} {s} r list x h e = rw e (record {
   wide = omega arith;
   small = omega (arith, r.width_high);
   here = omega (arith, r.here);
-  left = λ l. omega (arith, left l);
   right = λ l. omega (arith, right l, r.here);
-  top = λ t. omega (arith, r.top t);
   bottom = λ t. omega (arith, r.bottom t);
-  upper_left = λ l t. omega (arith, left l, r.top t);
   lower_right = λ l t. omega (arith, right l, r.bottom t);
 })
   where
-    left : not (step_open width ctb list s.left (8 * x)) ≡ false → 1 ≤ x
-    left = block_before width ctb list s.left x
-
     right : not (step_open width ctb list s.right (8 * x + 8)) ≡ false → x + 2 ≤ width / 8
     right = block_after width ctb list s.right x r.width8
 
@@ -91,16 +63,12 @@ row_in {p} {ctb} {region} b list s y h e = rw e (record {
   width8 = b.width8;
   few = rw b.numbers (mul-le-mul {n₂ = 512} {m₂ = 512} (omega (arith, b.width_high)) (omega (arith, b.height_high)));
   here = omega (arith, room (y + 1) (omega arith));
-  top = λ t. omega (arith, mul-le-mul_right (p.width / 8) (above t));
   bottom = λ t. omega (arith, room (y + 2) (below t));
 })
   where
     -- so many rows have room in the region
     room : (n : ℕ) → n ≤ p.height / 8 → n * (p.width / 8) ≤ length region
     room n k = rw (b.numbers, mul_comm (p.width / 8)) (mul-le-mul_right (p.width / 8) k)
-
-    above : not (step_open p.height ctb list (disables s.top) (8 * y)) ≡ false → 1 ≤ y
-    above = block_before p.height ctb list (disables s.top) y
 
     below : not (step_open p.height ctb list (disables s.bottom) (8 * y + 8)) ≡ false → y + 2 ≤ p.height / 8
     below = block_after p.height ctb list (disables s.bottom) y b.height8
