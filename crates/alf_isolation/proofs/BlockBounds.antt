@@ -27,8 +27,11 @@ open_within size ctb list disabled b e =
     let p = both (ltb 0 b) (ltb b size) (both (ltb 0 b && ltb b size) _ e).0 in
     (ltb-true 0 b p.0, ltb-true b size p.1)
 
--- a block that is open after it is not the last
+-- a block that is open before it is not the first, and one that is open after it is not the last
 module _ (size ctb : ℕ) (list : List ℕ) (disabled : Bool) (x : ℕ) where
+  block_before : not (step_open size ctb list disabled (8 * x)) ≡ false → 1 ≤ x
+  block_before e = omega (arith, open_within size ctb list disabled (8 * x) (not-false _ e))
+
   block_after : size % 8 ≡ 0 → not (step_open size ctb list disabled (8 * x + 8)) ≡ false → x + 2 ≤ size / 8
   block_after whole e = omega (arith, open_within size ctb list disabled (8 * x + 8) (not-false _ e))
 
@@ -40,11 +43,17 @@ block_in {width} {ctb} {n} {from} {s} r list x h e = rw e (record {
   wide = omega arith;
   small = omega (arith, r.width_high);
   here = omega (arith, r.here);
+  left = λ l. omega (arith, left l);
   right = λ l. omega (arith, right l, r.here);
+  top = λ t. omega (arith, r.top t);
   bottom = λ t. omega (arith, r.bottom t);
+  upper_left = λ l t. omega (arith, left l, r.top t);
   lower_right = λ l t. omega (arith, right l, r.bottom t);
 })
   where
+    left : not (step_open width ctb list s.left (8 * x)) ≡ false → 1 ≤ x
+    left = block_before width ctb list s.left x
+
     right : not (step_open width ctb list s.right (8 * x + 8)) ≡ false → x + 2 ≤ width / 8
     right = block_after width ctb list s.right x r.width8
 
@@ -63,12 +72,16 @@ row_in {p} {ctb} {region} b list s y h e = rw e (record {
   width8 = b.width8;
   few = rw b.numbers (mul-le-mul {n₂ = 512} {m₂ = 512} (omega (arith, b.width_high)) (omega (arith, b.height_high)));
   here = omega (arith, room (y + 1) (omega arith));
+  top = λ t. omega (arith, mul-le-mul_right (p.width / 8) (above t));
   bottom = λ t. omega (arith, room (y + 2) (below t));
 })
   where
     -- so many rows have room in the region
     room : (n : ℕ) → n ≤ p.height / 8 → n * (p.width / 8) ≤ length region
     room n k = rw (b.numbers, mul_comm (p.width / 8)) (mul-le-mul_right (p.width / 8) k)
+
+    above : not (step_open p.height ctb list (disables s.top) (8 * y)) ≡ false → 1 ≤ y
+    above = block_before p.height ctb list (disables s.top) y
 
     below : not (step_open p.height ctb list (disables s.bottom) (8 * y + 8)) ≡ false → y + 2 ≤ p.height / 8
     below = block_after p.height ctb list (disables s.bottom) y b.height8

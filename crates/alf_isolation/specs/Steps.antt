@@ -113,7 +113,7 @@ pub record BlocksOf (p : Picture) (ctb : ℕ) (region : List ℕ) : Type 0 where
   pub height8 : p.height % 8 ≡ 0
   pub numbers : length region ≡ p.width / 8 * (p.height / 8)
 
--- a row of blocks that begins at `from`, with the sides s: it lies in the region of n numbers, and so does the row below it where a step
+-- a row of blocks that begins at `from`, with the sides s: it lies in the region of n numbers, and so do the rows next to it where a step
 -- leads there
 pub record RowIn (width ctb n from : ℕ) (s : BlockSides) : Type 0 where
   pub ctb_low : 32 ≤ ctb
@@ -121,13 +121,17 @@ pub record RowIn (width ctb n from : ℕ) (s : BlockSides) : Type 0 where
   pub width8 : width % 8 ≡ 0
   pub few : n ≤ 262144
   pub here : from + width / 8 ≤ n
+  pub top : s.top ≡ false → width / 8 ≤ from
   pub bottom : s.bottom ≡ false → from + width / 8 + width / 8 ≤ n
 
--- block k with the sides s: it lies in the region of n numbers, and so do the blocks after it where a step leads there
+-- block k with the sides s: it lies in the region of n numbers, and so do the blocks next to it where a step leads there
 pub record BlockIn (n columns k : ℕ) (s : BlockSides) : Type 0 where
   pub wide : 0 < columns
   pub small : columns ≤ 512
   pub here : k < n
+  pub left : s.left ≡ false → 1 ≤ k
   pub right : s.right ≡ false → k + 1 < n
+  pub top : s.top ≡ false → columns ≤ k
   pub bottom : s.bottom ≡ false → k + columns < n
+  pub upper_left : s.left ≡ false → s.top ≡ false → columns + 1 ≤ k
   pub lower_right : s.right ≡ false → s.bottom ≡ false → k + (columns + 1) < n
