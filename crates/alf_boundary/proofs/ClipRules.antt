@@ -1,9 +1,9 @@
 -- Laws of the rules for clip positions. Assumes nothing.
 use Rattle.std.proofs.Common.{◌≡◌, refl, sym, ap, ◌∙◌, Bool, true, false, cond, List, [], ◌∷◌, Option, Some, None, arith, leb}
-use Rattle.std.proofs.Common.{ℕ, ◌+◌, ◌-◌, ◌*◌, ◌/◌, ◌%◌}
+use Rattle.std.proofs.Common.{ℕ, ◌+◌, ◌-◌, ◌*◌, ◌/◌, ◌%◌, ◌≤◌}
 use Rattle.std.specs.List.{find}
 use Rattle.std.specs.Option.{option_map, option_or}
-use native.Mathlib.Nat.{div-add-mod'}
+use native.Mathlib.Nat.{div-mul-le_self, div-add-mod'}
 use borrow.Author.Tests.{leb-true, le-leb}
 use Rattle.alf_spec.specs.declared.Clip.{Clip}
 use Rattle.alf_spec.specs.declared.ClipCause.{ClipCause}
@@ -34,6 +34,9 @@ sides-same {given} {side} first last = λ t d. at d t
 module _ {a : CtbAxis} {x start : ℕ} (h : InCtb a x) (e : start ≡ a.place * a.ctb) where
   pub start_is : x / a.ctb * a.ctb ≡ start
   start_is = sym (e ∙ ap (λ (q : ℕ). q * a.ctb) h.place)
+
+  pub start-le : start ≤ x
+  start-le = omega (arith, start_is, div-mul-le_self x a.ctb)
 
   pub in_ctb_lem : x % a.ctb ≡ x - start
   in_ctb_lem = omega (arith, start_is, div-add-mod' x a.ctb)

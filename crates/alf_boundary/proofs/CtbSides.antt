@@ -1,9 +1,11 @@
 -- Laws of a CTB's sides and corners: what the code reads in the tables is what the definitions say of the layout. Assumes nothing.
-use mathlib.Core.Path.{◌≡◌, refl, ◌∙◌}
-use mathlib.Core.Bool.{Bool, true, false, ◌&&◌, and_assoc, cond, not-not}
-use Prim.Native.Nat.{ℕ}
-use lib.Dec.{eqb}
-use borrow.Author.Tests.{eq-eqb}
+use mathlib.Core.Path.{◌≡◌, refl, sym, ◌∙◌}
+use mathlib.Core.Bool.{Bool, true, false, ◌&&◌, and-true, and_assoc, cond, not-not}
+use Prim.Native.Nat.{ℕ, suc, ◌+◌, ◌<◌}
+use native.Mathlib.Nat.{zero-lt-suc}
+use native.Mathlib.Numerals.{add-one}
+use lib.Dec.{ltb, eqb}
+use borrow.Author.Tests.{lt-ltb, eq-eqb}
 use Rattle.alf_spec.specs.declared.ClipCause.{ClipCause}
 use Rattle.alf_spec.specs.declared.ClipCause.TheVariants.{Open}
 use Rattle.alf_spec.specs.declared.Ctb.{Ctb}
@@ -18,6 +20,14 @@ use Rattle.alf_boundary.specs.declared.sides.Origin.{Origin}
 use Rattle.alf_boundary.specs.Tables.{SidesOf}
 use Rattle.alf_boundary.specs.Neighbours.{beside, stacked, diagonal}
 use Rattle.alf_boundary.specs.SideCauses.{corner_toward, origin_at, cause_toward}
+
+-- ---- of n places along an axis, x has one before it where it is not the first, and one after it where it is not the last
+
+pub has_before_lem : (n x : ℕ) → x < n → ltb 0 x ≡ has_next n before x
+has_before_lem n x h = rw (lt-ltb x n h) (sym (and-true (ltb 0 x)))
+
+pub has_after_lem : (n x : ℕ) → ltb (x + 1) n ≡ has_next n after x
+has_after_lem n x = rw (add-one, lt-ltb 0 (suc x) (zero-lt-suc x))
 
 -- a number equals itself
 eqb_same : (n : ℕ) → eqb n n ≡ true

@@ -1,8 +1,8 @@
 -- What the isolation test reads lies in the region: a side that is not disabled has a block across. Assumes nothing.
 use mathlib.Core.Path.{◌≡◌, ap}
-use mathlib.Core.Bool.{Bool, true, false, not, ◌&&◌}
+use mathlib.Core.Bool.{Bool, true, false, not, ◌&&◌, ◌||◌}
 use mathlib.Core.List.{List}
-use Prim.Native.Nat.{ℕ, ◌+◌, ◌*◌, ◌/◌, ◌%◌, ◌≤◌, ◌<◌}
+use Prim.Native.Nat.{ℕ, ◌+◌, ◌-◌, ◌*◌, ◌/◌, ◌%◌, ◌≤◌, ◌<◌}
 use native.Mathlib.Nat.{mul_comm, mul-le-mul, mul-le-mul_right}
 use native.Mathlib.Omega.{arith}
 use lib.Dec.{ltb}
@@ -13,10 +13,29 @@ use Rattle.alf_spec.specs.declared.Picture.{Picture}
 use Rattle.alf_spec.specs.declared.Sides.{Sides}
 use Rattle.alf_spec.specs.Lists.{all_below}
 use Rattle.alf_spec.specs.Boundary.{disables}
-use Rattle.alf_spec.proofs.Tests.{both}
+use Rattle.alf_spec.proofs.Tests.{both, neither}
 use Rattle.alf_isolation.specs.declared.steps.BlockSides.{BlockSides}
 use Rattle.alf_isolation.specs.Steps.{step_open, row_sides, block_sides, blocks_along, block_test, row_test, ctb_test, BlocksOf, RowIn}
 use Rattle.alf_isolation.specs.Steps.{BlockIn}
+
+-- ---- diagonal steps lead to a block of the region
+
+module _ {n columns k : ℕ} {s : BlockSides} (b : BlockIn n columns k s) where
+  pub upper_left_lem : (s.left || (s.top || s.upper_left)) ≡ false → columns + 1 ≤ k
+  upper_left_lem e =
+      let p = neither s.left _ e in
+      b.upper_left p.0 (neither s.top _ p.1).0
+
+  pub lower_left : (s.left || s.bottom) ≡ false → k + (columns - 1) < n
+  lower_left e = omega (arith, b.wide, b.bottom (neither s.left _ e).1)
+
+  pub upper_right : (s.right || s.top) ≡ false → columns - 1 ≤ k
+  upper_right e = omega (arith, b.top (neither s.right _ e).1)
+
+  pub lower_right_lem : (s.right || (s.bottom || s.lower_right)) ≡ false → k + (columns + 1) < n
+  lower_right_lem e =
+      let p = neither s.right _ e in
+      b.lower_right p.0 (neither s.bottom _ p.1).0
 
 -- ---- the blocks of a row, the rows of a region
 
