@@ -23,7 +23,7 @@ pub struct BlockEnds {
     pub ctb_after: bool,
 }
 
-// The columns of a picture with CTBs of this size.
+// The columns of a picture with CTBs of this size. They and the rows differ in the fields that are read, so these are two functions.
 pub fn column_axis<'a>(layout: &Layout<'a>, ctb: u32) -> BlockAxis<'a>
     ensures { (result.size ≡ layout.now.picture.width) × (result.ctb ≡ ctb) × (result.boundaries.now ≡ layout.now.virtual_columns) }
 {

@@ -24,14 +24,10 @@ pub fn row_sides(rows: &BlockAxis, sides: Sides, y: u32) -> BlockSides
     requires { (0 < rows.now.ctb) × (y ≤ 512) }
     ensures { result ≡ row_sides rows.now.size rows.now.ctb rows.now.boundaries.now sides y }
 {
-    let left = sides.left;
-    let right = sides.right;
-    let top = sides.top;
-    let bottom = sides.bottom;
-    let ends = rows.ends(disables(top), disables(bottom), y);
+    let ends = rows.ends(disables(sides.top), disables(sides.bottom), y);
     BlockSides {
-        left: disables(left),
-        right: disables(right),
+        left: disables(sides.left),
+        right: disables(sides.right),
         top: ends.closed_before,
         bottom: ends.closed_after,
         upper_left: ends.ctb_before & sides.upper_left,
