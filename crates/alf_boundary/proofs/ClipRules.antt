@@ -1,23 +1,19 @@
 -- Laws of the rules for clip positions. Assumes nothing.
-use mathlib.Core.Path.{◌≡◌, refl, sym, ap, ◌∙◌}
-use mathlib.Core.Bool.{Bool, true, false}
-use mathlib.Core.List.{List}
-use mathlib.Core.Option.{some, none}
-use Prim.Native.Nat.{ℕ, ◌+◌, ◌-◌, ◌*◌, ◌/◌, ◌%◌, ◌≤◌, ◌<◌}
-use native.Mathlib.Nat.{le_antisymm, mod-lt, div-mul-le_self, div-add-mod'}
-use native.Mathlib.Numerals.{add-one}
-use native.Mathlib.Omega.{arith}
-use lib.Dec.{leb}
-use lib.ListN.{length, get_or, drop}
-use lib.Seq.{drop-cons, drop-length}
+use Rattle.std.proofs.Common.{◌≡◌, refl, sym, ap, ◌∙◌, Bool, true, false, cond, List, [], ◌∷◌, Option, Some, None, arith, leb}
+use Rattle.std.proofs.Common.{ℕ, ◌+◌, ◌-◌, ◌*◌, ◌/◌, ◌%◌, ◌≤◌}
+use Rattle.std.specs.List.{find}
+use Rattle.std.specs.Option.{option_map, option_or}
+use native.Mathlib.Nat.{div-mul-le_self, div-add-mod'}
 use borrow.Author.Tests.{leb-true, le-leb}
+use Rattle.alf_spec.specs.declared.Clip.{Clip}
 use Rattle.alf_spec.specs.declared.ClipCause.{ClipCause}
 use Rattle.alf_spec.specs.declared.ClipCause.TheVariants.{VirtualBoundary}
 use Rattle.alf_spec.specs.Geometry.{Side, before, after}
-use Rattle.alf_spec.specs.Boundary.{find}
+use Rattle.alf_spec.specs.Boundary.{only, ◌or_else◌}
+use Rattle.alf_spec.specs.Boundary as first
 use Rattle.alf_spec.proofs.Tests.{same_test}
 use Rattle.alf_boundary.specs.declared.clips.CtbAxis.{CtbAxis}
-use Rattle.alf_boundary.specs.Clips.{InCtb}
+use Rattle.alf_boundary.specs.Clips.{clip_of, InCtb}
 
 -- a distance against a limit, without a difference
 pub distance-le : (x v k : ℕ) → leb (x - v) k ≡ leb x (v + k)
@@ -45,31 +41,22 @@ module _ {a : CtbAxis} {x start : ℕ} (h : InCtb a x) (e : start ≡ a.place * 
   pub in_ctb_lem : x % a.ctb ≡ x - start
   in_ctb_lem = omega (arith, start_is, div-add-mod' x a.ctb)
 
-  pub in_ctb-lt : x - start < a.ctb
-  in_ctb-lt =
-      let positive : 0 < a.ctb = omega (arith, h.low) in
-      omega (arith, in_ctb_lem, mod-lt x positive)
+-- ---- the first that a rule finds, as code has it
 
--- ---- a loop that is left at the first entry that passes
+-- the first virtual boundary that passes
+pub virtual_found : (test : ℕ → Bool) (xs : List ℕ)
+    → clip_of (option_map (λ v. record { cause = VirtualBoundary; position = v }) (find test xs)) ≡ first.find test xs
+unfolding first.find
+virtual_found test [] = refl
+virtual_found test (v ∷ vs) =
+    elim (test v)
+    as (λ b.
+    clip_of (option_map (λ n. record { cause = VirtualBoundary; position = n }) (cond b (Some v) (find test vs)))
+    ≡ (only b VirtualBoundary v or_else first.find test vs))
+    [ true ↦ refl | false ↦ virtual_found test vs ]
 
--- i entries are behind it, and none of them passed
-pub record Sought (test : ℕ → Bool) (xs : List ℕ) (i : ℕ) : Type 0 where
-  pub within : i ≤ length xs
-  pub rest : find test xs ≡ find test (drop i xs)
-
-pub sought_none : (test : ℕ → Bool) (xs : List ℕ) → Sought test xs 0
-sought_none test xs = record { within = omega arith; rest = refl }
-
-module _ {test : ℕ → Bool} {xs : List ℕ} {i : ℕ} (s : Sought test xs i) where
-  pub sought_here : i < length xs → {r : Bool} → r ≡ test (get_or xs i 0) → r ≡ true
-      → some (record { cause = VirtualBoundary; position = get_or xs i 0 }) ≡ find test xs
-  unfolding find
-  sought_here h e q = sym (s.rest ∙ rw (drop-cons xs i 0, ← e, q))
-
-  pub sought_more : i < length xs → {r : Bool} → r ≡ test (get_or xs i 0) → r ≡ false → Sought test xs (i + 1)
-  unfolding find
-  sought_more h e q = record { within = omega arith; rest = s.rest ∙ rw (add-one, drop-cons xs i 0, ← e, q) }
-
-  pub sought_done : length xs ≤ i → none ≡ find test xs
-  unfolding find
-  sought_done h = sym (s.rest ∙ rw (le_antisymm s.within h, drop-length xs))
+-- the first of three
+pub first_of_three : (a b c : Option Clip) → clip_of (option_or (option_or a b) c) ≡ (clip_of a or_else clip_of b or_else clip_of c)
+first_of_three (Some a) b c = refl
+first_of_three None (Some b) c = refl
+first_of_three None None c = refl

@@ -38,11 +38,11 @@ eqb_same n = eq-eqb n n refl
 module _ (l : Layout) (g : Grid) (h : GridOf l.picture g) (c : Ctb) where
   -- what decides at its sides
   abbrev pub origin : Origin
-  origin = origin_at l.tile_columns l.tile_rows l.slice_map l.subpic_map l.subpic_across l.picture g.columns c
+  origin = origin_at l g.columns c
 
   -- the cause toward another CTB
   abbrev pub toward : Ctb → ClipCause
-  toward n = cause_toward l.tile_columns l.tile_rows l.slice_map l.subpic_map l.subpic_across origin n
+  toward n = cause_toward l origin n
 
   -- toward the CTB n where it is there, and toward itself where it is not
   step_is : (there : Bool) (n : Ctb) → toward (cond there n c) ≡ cond there (step_cause l c n) Open
@@ -58,12 +58,12 @@ module _ (l : Layout) (g : Grid) (h : GridOf l.picture g) (c : Ctb) where
   unfolding row_side
   row_side_lem d = rw (← grid-rows l g h) (step_is (has_next g.rows d c.row) (stacked_ctb d c))
 
-  slice_is : (there : Bool) (n : Ctb) → corner_toward l.slice_map origin (cond there n c) ≡ (there && slice_disables l c n)
+  slice_is : (there : Bool) (n : Ctb) → corner_toward l origin (cond there n c) ≡ (there && slice_disables l c n)
   unfolding slice_disables slice_of
   slice_is true n = rw (grid-columns l g h)
   slice_is false n = simp eqb_same
 
-  corner : (d : Side) → corner_toward l.slice_map origin (diagonal g c d) ≡ corner_disabled l c d
+  corner : (d : Side) → corner_toward l origin (diagonal g c d) ≡ corner_disabled l c d
   unfolding corner_disabled
   corner d =
       let x = has_next g.columns d c.column in
@@ -77,8 +77,8 @@ module _ (l : Layout) (g : Grid) (h : GridOf l.picture g) (c : Ctb) where
     right = toward (beside g c after);
     top = toward (stacked g c before);
     bottom = toward (stacked g c after);
-    upper_left = corner_toward l.slice_map origin (diagonal g c before);
-    lower_right = corner_toward l.slice_map origin (diagonal g c after);
+    upper_left = corner_toward l origin (diagonal g c before);
+    lower_right = corner_toward l origin (diagonal g c after);
   })
   sides_are = record {
     left = column_side_lem before;

@@ -1,7 +1,6 @@
 -- The tables of an accepted layout, and the entries of a CTB in them. Assumes nothing.
 use mathlib.Core.Path.{◌≡◌, refl, ◌∙◌, sym}
 use mathlib.Core.Bool.{Bool, true, false, cond}
-use mathlib.Core.List.{List}
 use Prim.Native.Nat.{ℕ, suc, pred, ◌+◌, ◌*◌, ◌<◌}
 use native.Mathlib.Omega.{arith}
 use lib.Dec.{ltb}
@@ -24,7 +23,7 @@ use Rattle.alf_boundary.specs.Neighbours.{beside, stacked, diagonal}
 
 -- an accepted layout has the tables of its grid
 pub tables_of_lem : (l : Layout) (g : Grid) → GridOf l.picture g → AcceptedLayout l
-    → MembershipTables g l.tile_columns l.tile_rows l.slice_map l.subpic_map l.subpic_across
+    → MembershipTables g l
 unfolding subpictures_valid
 tables_of_lem l g h ok =
     let lengths = table_lengths l ok.lengths in
@@ -46,15 +45,14 @@ next-within n x before e = down (ltb-true x n (both (ltb 0 x) (ltb x n) e).1)
 next-within n x after e = ltb-true (suc x) n (both (ltb 0 (suc x)) (ltb (suc x) n) e).1
 
 -- the tables of a grid
-module _ {g : Grid} {tile_columns tile_rows slice_map subpic_map subpic_across : List ℕ}
-    (t : MembershipTables g tile_columns tile_rows slice_map subpic_map subpic_across) where
+module _ {g : Grid} {l : Layout} (t : MembershipTables g l) where
   -- a CTB has its entries, and its subpicture a switch
   pub in_tables : (c : Ctb) → c.column < g.columns → c.row < g.rows
-      → InTables g.columns tile_columns tile_rows slice_map subpic_map subpic_across c
+      → InTables l g.columns c
   in_tables c x y =
-      let here : c.row * g.columns + c.column < length subpic_map =
+      let here : c.row * g.columns + c.column < length l.subpic_map =
       rw t.subpic_length (place-below g.columns g.rows c.column c.row x y) in
-      let below = every-at 0 0 (λ k n. ltb n 64) subpic_map t.subpictures (c.row * g.columns + c.column) here in
+      let below = every-at 0 0 (λ k n. ltb n 64) l.subpic_map t.subpictures (c.row * g.columns + c.column) here in
       record {
         column = rw t.columns_length x;
         row = rw t.rows_length y;
@@ -66,7 +64,7 @@ module _ {g : Grid} {tile_columns tile_rows slice_map subpic_map subpic_across :
   -- the CTBs next to c on one side lie in the grid, and have their entries
   module _ (c : Ctb) (x : c.column < g.columns) (y : c.row < g.rows) (d : Side) where
     abbrev Entries : Ctb → Type 0
-    Entries n = InTables g.columns tile_columns tile_rows slice_map subpic_map subpic_across n
+    Entries n = InTables l g.columns n
 
     -- a CTB where it is there, and c itself where it is not
     reached : (there : Bool) (n : Ctb) → (there ≡ true → Entries n) → Entries (cond there n c)

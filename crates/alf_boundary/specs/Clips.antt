@@ -1,6 +1,7 @@
 -- Clip positions as code has them. Assumes nothing.
-use Rattle.std.specs.Prelude.{◌≡◌, Bool, true, false, List, ℕ, ◌/◌, ◌≤◌}
-use Rattle.std.proofs.Math.Option.{Option, some, none, map}
+use Rattle.std.specs.Prelude.{◌≡◌, Bool, true, false, List, ℕ, ◌/◌, ◌≤◌, Option, Some, None}
+use Rattle.std.proofs.Math.Option.{some, none, map}
+use Rattle.std.proofs.Math.Option as math
 use Rattle.alf_spec.specs.declared.Clip.{Clip}
 use Rattle.alf_spec.specs.declared.ClipCause.{ClipCause}
 use Rattle.alf_spec.specs.declared.Grid.{Grid}
@@ -8,16 +9,14 @@ use Rattle.alf_spec.specs.declared.Picture.{Picture}
 use Rattle.alf_spec.specs.declared.Sides.{Sides}
 use Rattle.alf_spec.specs.Geometry.{Side, before, after, Axis, axis_of}
 use Rattle.alf_boundary.specs.declared.clips.CtbAxis.{CtbAxis}
-use Rattle.alf_boundary.specs.declared.clips.FoundClip.{FoundClip}
-use Rattle.alf_boundary.specs.declared.clips.FoundClip.TheVariants.{At, Nowhere}
 
 -- the clip position and its cause, where there is one
-abbrev pub clip_of : FoundClip → Option Clip
-clip_of (At c) = some c
-clip_of Nowhere = none
+abbrev pub clip_of : Option Clip → math.Option Clip
+clip_of (Some c) = some c
+clip_of None = none
 
 -- the position alone
-abbrev pub position_of : FoundClip → Option ℕ
+abbrev pub position_of : Option Clip → math.Option ℕ
 position_of e = map (λ c. c.position) (clip_of e)
 
 -- the side that a flag names

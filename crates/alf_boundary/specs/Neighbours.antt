@@ -1,5 +1,5 @@
 -- The CTBs next to a CTB as code has them. Assumes nothing.
-use Rattle.std.specs.Prelude.{◌&&◌, cond, ℕ}
+use Rattle.std.specs.Prelude.{◌&&◌, cond, ℕ, Option, Some, None}
 use Rattle.alf_spec.specs.declared.Ctb.{Ctb}
 use Rattle.alf_spec.specs.declared.Grid.{Grid}
 use Rattle.alf_spec.specs.Geometry.{Side, before, after, next, has_next}
@@ -7,14 +7,19 @@ use Rattle.alf_spec.specs.Boundary.{beside_ctb, stacked_ctb, diagonal_ctb}
 use Rattle.alf_boundary.specs.declared.neighbours.AxisNeighbours.{AxisNeighbours}
 use Rattle.alf_boundary.specs.declared.neighbours.Neighbours.{Neighbours}
 
+-- the place next to x of n along an axis on that side, where there is one
+abbrev pub place_next : ℕ → Side → ℕ → Option ℕ
+place_next n d x = cond (has_next n d x) (Some (next d x)) None
+
 -- what is next to place x of n along an axis
 abbrev pub neighbours_along : ℕ → ℕ → AxisNeighbours
-neighbours_along n x = record {
-  has_before = has_next n before x;
-  before = next before x;
-  has_after = has_next n after x;
-  after = next after x;
-}
+neighbours_along n x = record { before = place_next n before x; after = place_next n after x }
+
+-- the CTB at a column and a row where there are both, and c where there is none
+abbrev pub ctb_or_own : Option ℕ → Option ℕ → Ctb → Ctb
+ctb_or_own (Some x) (Some y) c = record { column = x; row = y }
+ctb_or_own (Some x) None c = c
+ctb_or_own None y c = c
 
 -- the CTBs next to c, each where there is one and c itself where there is none
 module _ (g : Grid) (c : Ctb) where

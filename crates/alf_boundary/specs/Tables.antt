@@ -1,5 +1,5 @@
 -- The tables that say of which tile, slice and subpicture a CTB is, and a CTB's sides as code has them. Assumes nothing.
-use Rattle.std.specs.Prelude.{◌≡◌, true, List, ℕ, ◌*◌, ltb, length}
+use Rattle.std.specs.Prelude.{◌≡◌, true, ◌*◌, ltb, length}
 use Rattle.alf_spec.specs.declared.Ctb.{Ctb}
 use Rattle.alf_spec.specs.declared.Grid.{Grid}
 use Rattle.alf_spec.specs.declared.Sides.{Sides}
@@ -8,14 +8,14 @@ use Rattle.alf_spec.specs.Input.{Layout}
 use Rattle.alf_spec.specs.Geometry.{before, after}
 use Rattle.alf_spec.specs.Boundary.{column_side, row_side, corner_disabled}
 
--- the tables have the grid's lengths, and each subpicture number has a switch
-pub record MembershipTables (g : Grid) (tile_columns tile_rows slice_map subpic_map subpic_across : List ℕ) : Type 0 where
-  pub columns_length : length tile_columns ≡ g.columns
-  pub rows_length : length tile_rows ≡ g.rows
-  pub slice_length : length slice_map ≡ g.columns * g.rows
-  pub subpic_length : length subpic_map ≡ g.columns * g.rows
-  pub switch_length : length subpic_across ≡ 64
-  pub subpictures : every (λ n. ltb n 64) subpic_map ≡ true
+-- the layout's tables have the grid's lengths, and each subpicture number has a switch
+pub record MembershipTables (g : Grid) (l : Layout) : Type 0 where
+  pub columns_length : length l.tile_columns ≡ g.columns
+  pub rows_length : length l.tile_rows ≡ g.rows
+  pub slice_length : length l.slice_map ≡ g.columns * g.rows
+  pub subpic_length : length l.subpic_map ≡ g.columns * g.rows
+  pub switch_length : length l.subpic_across ≡ 64
+  pub subpictures : every (λ n. ltb n 64) l.subpic_map ≡ true
 
 -- the sides and corners of the CTB c
 pub record SidesOf (l : Layout) (c : Ctb) (s : Sides) : Type 0 where

@@ -9,26 +9,12 @@ use alf_spec::ClipCause;
 pub fn disables(side: ClipCause) -> bool
     ensures { result ≡ disables side }
 {
-    match side {
-        ClipCause::Open => false,
-        ClipCause::LineBufferBoundary => true,
-        ClipCause::VirtualBoundary => true,
-        ClipCause::Tile => true,
-        ClipCause::Slice => true,
-        ClipCause::Subpicture => true,
-    }
+    side != ClipCause::Open
 }
 
 // The number of a cause, 0 to 5.
 pub fn cause_number(cause: ClipCause) -> u8
     ensures { result ≡ cause_number cause }
 {
-    match cause {
-        ClipCause::Open => 0,
-        ClipCause::LineBufferBoundary => 1,
-        ClipCause::VirtualBoundary => 2,
-        ClipCause::Tile => 3,
-        ClipCause::Slice => 4,
-        ClipCause::Subpicture => 5,
-    }
+    cause as u8
 }

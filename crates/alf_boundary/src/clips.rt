@@ -1,6 +1,7 @@
 // The clip positions of a position along an axis of the picture, and their causes: the line-buffer boundary, a virtual boundary, or why
 // filtering across the side of its CTB is disabled.
 ghost use Rattle.std.specs.Prelude.{◌≡◌, List, ℕ, ◌+◌, ◌-◌, ◌*◌, ◌/◌, ◌≤◌, ◌<◌};
+ghost use Rattle.std.specs.List.{find};
 ghost use Rattle.alf_spec.specs.Geometry.{Axis, line_rule, axis_of};
 ghost use Rattle.alf_spec.specs.Boundary.{only, ◌or_else◌, near, line_clip, virtual_clip, side_clip, clip, cause_of};
 ghost use Rattle.alf_boundary.specs.Clips.{clip_of, side_of, column_axis, row_axis, axis_along, sides_along, Bounded, InCtb};
@@ -8,15 +9,9 @@ ghost use Rattle.alf_boundary.specs.Clips.{clip_of, side_of, column_axis, row_ax
 use crate::causes::disables;
 use alf_spec::{Clip, ClipCause, Grid, Picture, Sides};
 
-// What the rules find on one side of a position: a clip position with its cause, or none.
-#[derive(Clone, Copy)]
-pub enum FoundClip {
-    At(Clip),
-    Nowhere,
-}
-
-// One axis of the picture through one of its CTBs. Columns and rows have an axis each, so that every rule along an axis is one function;
-// the axis's virtual boundaries are passed beside it.
+// One axis of the picture through one of its CTBs. Columns and rows have an axis each, so that every rule along an axis is one function.
+// The axis's virtual boundaries are passed beside it: with a reference in it, an axis could not be said to equal its definition. What a
+// rule asks of an axis (InCtb) is no invariant of it, since the two functions that make one promise it for every picture.
 #[derive(Clone, Copy)]
 pub struct CtbAxis {
     // the picture's samples along it, and a CTB's
@@ -31,18 +26,16 @@ pub struct CtbAxis {
     pub place: u32,
 }
 
-// The axis of columns through a CTB of the CTB column q.
+// The axis of columns through a CTB of the CTB column q. It and the axis of rows differ in the fields that they read, so they are two.
 pub fn column_axis(picture: Picture, grid: Grid, sides: Sides, q: u32) -> CtbAxis
     ensures { result ≡ column_axis picture grid sides q }
 {
-    let left = sides.left;
-    let right = sides.right;
     CtbAxis {
         size: picture.width,
         ctb: grid.ctb,
         line: 0,
-        before: left,
-        after: right,
+        before: sides.left,
+        after: sides.right,
         place: q,
     }
 }
@@ -51,82 +44,63 @@ pub fn column_axis(picture: Picture, grid: Grid, sides: Sides, q: u32) -> CtbAxi
 pub fn row_axis(picture: Picture, grid: Grid, sides: Sides, line: u32, q: u32) -> CtbAxis
     ensures { result ≡ row_axis picture grid sides line q }
 {
-    let top = sides.top;
-    let bottom = sides.bottom;
     CtbAxis {
         size: picture.height,
         ctb: grid.ctb,
         line: line,
-        before: top,
-        after: bottom,
+        before: sides.top,
+        after: sides.bottom,
         place: q,
     }
 }
 
 // The clip position with its cause, where the test passes.
-fn only_if(test: bool, cause: ClipCause, at: u32) -> FoundClip
+fn only_if(test: bool, cause: ClipCause, at: u32) -> Option<Clip>
     ensures { clip_of result ≡ only test cause at }
 {
-    if test {
-        FoundClip::At(Clip {
-            cause: cause,
-            position: at,
-        })
-    } else {
-        FoundClip::Nowhere
-    }
-}
-
-// The first of two that is a clip position.
-fn or_else(first: FoundClip, second: FoundClip) -> FoundClip
-    ensures { clip_of result ≡ (clip_of first or_else clip_of second) }
-{
-    match first {
-        FoundClip::At(clip) => FoundClip::At(clip),
-        FoundClip::Nowhere => second,
-    }
+    test.then_some(Clip {
+        cause: cause,
+        position: at,
+    })
 }
 
 // The cause of the clip position; where there is none, the side is open.
-pub fn cause_of(found: FoundClip) -> ClipCause
+pub fn cause_of(found: Option<Clip>) -> ClipCause
     ensures { result ≡ cause_of (clip_of found) }
 {
-    match found {
-        FoundClip::At(clip) => clip.cause,
-        FoundClip::Nowhere => ClipCause::Open,
-    }
+    found.map_or(ClipCause::Open, |clip| clip.cause)
 }
 
 // Whether a virtual boundary is near x on that side: 0 to 2 before x or at it, or 1 to 4 after x.
 fn is_near(after: bool, x: u32, boundary: u32) -> bool
-    requires { (x ≤ 65535) × (boundary ≤ 65535) }
     ensures { result ≡ near (side_of after) x boundary }
 {
     if after {
-        (x < boundary) & (boundary <= x + 4)
+        x < boundary && boundary - x <= 4
     } else {
-        (boundary <= x) & (x <= boundary + 2)
+        boundary <= x && x - boundary <= 2
     }
 }
 
 // The first virtual boundary that is near x on that side.
-pub fn virtual_clip(after: bool, boundaries: &[u16], x: u32) -> FoundClip
-    requires { x ≤ 65535 }
+fn near_boundary(after: bool, boundaries: &[u16], x: u32) -> Option<u32>
+    ensures { result ≡ find (near (side_of after) x) boundaries.now }
+{
+    boundaries
+        .iter()
+        .map(|b| *b as u32)
+        .find(|b| is_near(after, x, *b))
+}
+
+// The same boundary as a clip position with its cause.
+pub fn virtual_clip(after: bool, boundaries: &[u16], x: u32) -> Option<Clip>
     ensures { (size ctb line ratio : ℕ)
         → clip_of result ≡ virtual_clip (axis_of size ctb boundaries.now line ratio) x (side_of after) }
 {
-    let mut i = 0;
-    while i < boundaries.len() {
-        let boundary = boundaries[i] as u32;
-        if is_near(after, x, boundary) {
-            return FoundClip::At(Clip {
-                cause: ClipCause::VirtualBoundary,
-                position: boundary,
-            });
-        }
-        i += 1;
-    }
-    FoundClip::Nowhere
+    near_boundary(after, boundaries, x).map(|boundary| Clip {
+        cause: ClipCause::VirtualBoundary,
+        position: boundary,
+    })
 }
 
 // Where the axis's CTB begins.
@@ -146,7 +120,7 @@ pub fn line_rule(size: u32, ctb: u32, y: u32) -> bool
 }
 
 // The line-buffer boundary: before x where x lies at or below it, and after x where x lies 1 to 4 rows above it.
-fn line_clip(axis: CtbAxis, after: bool, x: u32) -> FoundClip
+fn line_clip(axis: CtbAxis, after: bool, x: u32) -> Option<Clip>
     requires { InCtb axis x }
     ensures { (boundaries : List ℕ) (ratio : ℕ) → clip_of result ≡ line_clip (axis_along axis boundaries ratio) x (side_of after) }
 {
@@ -169,7 +143,7 @@ fn line_clip(axis: CtbAxis, after: bool, x: u32) -> FoundClip
 
 // The CTB's side where filtering across it is disabled: before x where x lies at most 2 behind it, after x where x lies at most 4 before
 // it.
-fn side_clip(axis: CtbAxis, after: bool, x: u32) -> FoundClip
+fn side_clip(axis: CtbAxis, after: bool, x: u32) -> Option<Clip>
     requires { InCtb axis x }
     ensures { (boundaries : List ℕ) (ratio : ℕ)
         → clip_of result ≡ side_clip (axis_along axis boundaries ratio) x (sides_along axis) (side_of after) }
@@ -190,7 +164,7 @@ fn side_clip(axis: CtbAxis, after: bool, x: u32) -> FoundClip
 
 // What the rules find on one side of x, a position of the axis's CTB. Before x the line-buffer boundary comes first, then a virtual
 // boundary, then the CTB's side; after x a virtual boundary comes before the line.
-pub fn find_clip(axis: CtbAxis, boundaries: &[u16], after: bool, x: u32) -> FoundClip
+pub fn find_clip(axis: CtbAxis, boundaries: &[u16], after: bool, x: u32) -> Option<Clip>
     requires { InCtb axis x }
     ensures { (ratio : ℕ)
         → clip_of result ≡ clip (axis_along axis boundaries.now ratio) x (sides_along axis) (side_of after) }
@@ -199,8 +173,8 @@ pub fn find_clip(axis: CtbAxis, boundaries: &[u16], after: bool, x: u32) -> Foun
     let by_boundary = virtual_clip(after, boundaries, x);
     let by_side = side_clip(axis, after, x);
     if after {
-        or_else(by_boundary, or_else(by_line, by_side))
+        by_boundary.or(by_line).or(by_side)
     } else {
-        or_else(by_line, or_else(by_boundary, by_side))
+        by_line.or(by_boundary).or(by_side)
     }
 }

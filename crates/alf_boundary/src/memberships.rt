@@ -1,8 +1,8 @@
 // Of which tile, slice and subpicture a CTB is, as the tables of the layout say.
-ghost use Rattle.std.specs.Prelude.{◌≡◌, not, ◌+◌, ◌*◌, ◌<◌, eqb, length, get_or};
+ghost use Rattle.std.specs.Prelude.{◌≡◌, ◌+◌, ◌*◌};
 ghost use Rattle.alf_boundary.specs.Memberships.{InTables, membership_at};
 
-use alf_spec::Ctb;
+use alf_spec::{Ctb, Layout};
 
 // The tile, the slice and the subpicture of a CTB, and whether that subpicture's switch is on.
 #[derive(Clone, Copy)]
@@ -21,38 +21,18 @@ pub fn address(columns: u32, ctb: Ctb) -> usize
     (ctb.row as usize) * (columns as usize) + (ctb.column as usize)
 }
 
-// Whether the switch of a subpicture is on: filtering goes across its sides.
-fn switch_of(subpic_across: &[u8], subpic: u8) -> bool
-    requires { subpic < length subpic_across.now }
-    ensures { result ≡ not (eqb (get_or subpic_across.now subpic 0) 0) }
+// The membership of a CTB, by the layout's tables of a grid with so many CTBs in a row.
+pub fn membership_of(layout: &Layout, columns: u32, ctb: Ctb) -> Membership
+    requires { InTables layout.now columns ctb }
+    ensures { result ≡ membership_at layout.now columns ctb }
 {
-    let at = subpic as usize;
-    subpic_across[at] != 0
-}
-
-// The membership of a CTB, by the tables of a grid with so many CTBs in a row.
-pub fn membership_of(
-    columns: u32,
-    tile_columns: &[u8],
-    tile_rows: &[u8],
-    slice_map: &[u8],
-    subpic_map: &[u8],
-    subpic_across: &[u8],
-    ctb: Ctb,
-) -> Membership
-    requires { InTables columns tile_columns.now tile_rows.now slice_map.now subpic_map.now subpic_across.now ctb }
-    ensures { result ≡ membership_at columns tile_columns.now tile_rows.now slice_map.now
-        subpic_map.now subpic_across.now ctb }
-{
-    let column = ctb.column as usize;
-    let row = ctb.row as usize;
     let at = address(columns, ctb);
-    let subpic = subpic_map[at];
+    let subpic = layout.subpic_map[at];
     Membership {
-        tile_column: tile_columns[column],
-        tile_row: tile_rows[row],
-        slice: slice_map[at],
+        tile_column: layout.tile_columns[ctb.column as usize],
+        tile_row: layout.tile_rows[ctb.row as usize],
+        slice: layout.slice_map[at],
         subpic: subpic,
-        across_subpic: switch_of(subpic_across, subpic),
+        across_subpic: layout.subpic_across[subpic as usize] != 0,
     }
 }

@@ -1,17 +1,14 @@
 // The CTBs next to a CTB: found along one axis at a time, by the CTB's place among so many.
-ghost use Rattle.std.specs.Prelude.{◌≡◌, cond, ◌<◌};
-ghost use Rattle.alf_boundary.specs.Neighbours.{neighbours_along, neighbours_of};
+ghost use Rattle.std.specs.Prelude.{◌≡◌, ◌<◌};
+ghost use Rattle.alf_boundary.specs.Neighbours.{neighbours_along, ctb_or_own, neighbours_of};
 
-use alf_math::grid::previous;
 use alf_spec::{Ctb, Grid};
 
-// The places next to a place along an axis, and whether there are CTBs.
+// The places next to a place along an axis, where there are CTBs.
 #[derive(Clone, Copy)]
 struct AxisNeighbours {
-    pub has_before: bool,
-    pub before: u32,
-    pub has_after: bool,
-    pub after: u32,
+    pub before: Option<u32>,
+    pub after: Option<u32>,
 }
 
 // The CTBs across the sides of a CTB, and across the two corners at which slices disable filtering. Where there is none, it is the CTB
@@ -33,24 +30,21 @@ fn neighbours_along(count: u32, at: u32) -> AxisNeighbours
 {
     let after = at + 1;
     AxisNeighbours {
-        has_before: 0 < at,
-        before: previous(at),
-        has_after: after < count,
-        after: after,
+        before: at.checked_sub(1),
+        after: (after < count).then_some(after),
     }
 }
 
-// The CTB at this place where there is one, and a CTB itself where there is none.
-fn ctb_or_own(there: bool, column: u32, row: u32, own: Ctb) -> Ctb
-    ensures { result ≡ cond there (record { column = column; row = row }) own }
+// The CTB at this column and row where there are both, and a CTB itself where there is none.
+fn ctb_or_own(column: Option<u32>, row: Option<u32>, own: Ctb) -> Ctb
+    ensures { result ≡ ctb_or_own column row own }
 {
-    if there {
-        Ctb {
+    match (column, row) {
+        (Some(column), Some(row)) => Ctb {
             column: column,
             row: row,
-        }
-    } else {
-        own
+        },
+        _ => own,
     }
 }
 
@@ -64,21 +58,11 @@ pub fn neighbours_of(grid: Grid, ctb: Ctb) -> Neighbours
     let across = neighbours_along(grid.columns, x);
     let down = neighbours_along(grid.rows, y);
     Neighbours {
-        left: ctb_or_own(across.has_before, across.before, y, ctb),
-        right: ctb_or_own(across.has_after, across.after, y, ctb),
-        above: ctb_or_own(down.has_before, x, down.before, ctb),
-        below: ctb_or_own(down.has_after, x, down.after, ctb),
-        upper_left: ctb_or_own(
-            across.has_before & down.has_before,
-            across.before,
-            down.before,
-            ctb,
-        ),
-        lower_right: ctb_or_own(
-            across.has_after & down.has_after,
-            across.after,
-            down.after,
-            ctb,
-        ),
+        left: ctb_or_own(across.before, Some(y), ctb),
+        right: ctb_or_own(across.after, Some(y), ctb),
+        above: ctb_or_own(Some(x), down.before, ctb),
+        below: ctb_or_own(Some(x), down.after, ctb),
+        upper_left: ctb_or_own(across.before, down.before, ctb),
+        lower_right: ctb_or_own(across.after, down.after, ctb),
     }
 }

@@ -1,14 +1,13 @@
 // The sides of a CTB, by why filtering across them is disabled, and its corners across which it is.
-ghost use Rattle.std.specs.Prelude.{◌≡◌, List, ℕ, ◌+◌, ◌*◌, ◌<◌, length};
-ghost use Rattle.alf_spec.specs.Input.{layout_of};
+ghost use Rattle.std.specs.Prelude.{◌≡◌, ◌+◌, ◌*◌, ◌<◌, length};
 ghost use Rattle.alf_math.specs.Grids.{GridOf};
 ghost use Rattle.alf_boundary.specs.Tables.{MembershipTables, SidesOf};
 ghost use Rattle.alf_boundary.specs.Memberships.{InTables};
-ghost use Rattle.alf_boundary.specs.SideCauses.{slice_step_disabled, cause_into, axis_causes, corner_toward};
+ghost use Rattle.alf_boundary.specs.SideCauses.{slice_step_disabled, cause_into, origin_at, axis_causes, corner_toward};
 
 use crate::memberships::{Membership, address, membership_of};
 use crate::neighbours::neighbours_of;
-use alf_spec::{ClipCause, Ctb, Grid, Picture, Sides};
+use alf_spec::{ClipCause, Ctb, Grid, Layout, Sides};
 
 // What decides at each side of a CTB: its membership, and the picture's switches for tiles and slices. With them the number of CTBs in a
 // row, by which a neighbour's address is known.
@@ -57,110 +56,49 @@ fn step_cause(origin: Origin, into: Membership) -> ClipCause
     ClipCause::Open
 }
 
-// Why filtering across the two sides along one axis is disabled, by the CTBs next to them.
-fn axis_causes(
-    origin: Origin,
-    tile_columns: &[u8],
-    tile_rows: &[u8],
-    slice_map: &[u8],
-    subpic_map: &[u8],
-    subpic_across: &[u8],
-    before: Ctb,
-    after: Ctb,
-) -> AxisCauses
-    requires { (InTables origin.columns tile_columns.now tile_rows.now slice_map.now subpic_map.now
-        subpic_across.now before)
-        × (InTables origin.columns tile_columns.now tile_rows.now slice_map.now subpic_map.now
-        subpic_across.now after) }
-    ensures { result ≡ axis_causes tile_columns.now tile_rows.now slice_map.now
-        subpic_map.now subpic_across.now origin before after }
+// What decides at the sides of a CTB, in a grid with so many CTBs in a row.
+fn origin_of(layout: &Layout, columns: u32, ctb: Ctb) -> Origin
+    requires { InTables layout.now columns ctb }
+    ensures { result ≡ origin_at layout.now columns ctb }
 {
-    let into_before = membership_of(
-        origin.columns,
-        tile_columns,
-        tile_rows,
-        slice_map,
-        subpic_map,
-        subpic_across,
-        before,
-    );
-    let into_after = membership_of(
-        origin.columns,
-        tile_columns,
-        tile_rows,
-        slice_map,
-        subpic_map,
-        subpic_across,
-        after,
-    );
+    Origin {
+        own: membership_of(layout, columns, ctb),
+        across_tiles: layout.picture.across_tiles,
+        across_slices: layout.picture.across_slices,
+        columns: columns,
+    }
+}
+
+// Why filtering across the two sides along one axis is disabled, by the CTBs next to them.
+fn axis_causes(layout: &Layout, origin: Origin, before: Ctb, after: Ctb) -> AxisCauses
+    requires { (InTables layout.now origin.columns before) × (InTables layout.now origin.columns after) }
+    ensures { result ≡ axis_causes layout.now origin before after }
+{
     AxisCauses {
-        before: step_cause(origin, into_before),
-        after: step_cause(origin, into_after),
+        before: step_cause(origin, membership_of(layout, origin.columns, before)),
+        after: step_cause(origin, membership_of(layout, origin.columns, after)),
     }
 }
 
 // Whether filtering across the corner toward the CTB n is disabled: slices alone decide.
-fn corner_disabled(origin: Origin, slice_map: &[u8], n: Ctb) -> bool
-    requires { n.row * origin.columns + n.column < length slice_map.now }
-    ensures { result ≡ corner_toward slice_map.now origin n }
+fn corner_disabled(layout: &Layout, origin: Origin, n: Ctb) -> bool
+    requires { n.row * origin.columns + n.column < length layout.now.slice_map }
+    ensures { result ≡ corner_toward layout.now origin n }
 {
     let at = address(origin.columns, n);
-    slice_step_disabled(origin, slice_map[at])
+    slice_step_disabled(origin, layout.slice_map[at])
 }
 
 // The sides of a CTB, by why filtering across them is disabled, and its corners across which it is.
-pub fn sides_of(
-    picture: Picture,
-    grid: Grid,
-    tile_columns: &[u8],
-    tile_rows: &[u8],
-    slice_map: &[u8],
-    subpic_map: &[u8],
-    subpic_across: &[u8],
-    ctb: Ctb,
-) -> Sides
-    requires { (GridOf picture grid)
-        × (MembershipTables grid tile_columns.now tile_rows.now slice_map.now subpic_map.now subpic_across.now)
+pub fn sides_of(layout: &Layout, grid: Grid, ctb: Ctb) -> Sides
+    requires { (GridOf layout.now.picture grid) × (MembershipTables grid layout.now)
         × (ctb.column < grid.columns) × (ctb.row < grid.rows) }
-    ensures { (columns rows : List ℕ) → SidesOf (layout_of picture columns rows tile_columns.now
-        tile_rows.now slice_map.now subpic_map.now subpic_across.now) ctb result }
+    ensures { SidesOf layout.now ctb result }
 {
-    let own = membership_of(
-        grid.columns,
-        tile_columns,
-        tile_rows,
-        slice_map,
-        subpic_map,
-        subpic_across,
-        ctb,
-    );
-    let origin = Origin {
-        own: own,
-        across_tiles: picture.across_tiles,
-        across_slices: picture.across_slices,
-        columns: grid.columns,
-    };
+    let origin = origin_of(layout, grid.columns, ctb);
     let near = neighbours_of(grid, ctb);
-    let across = axis_causes(
-        origin,
-        tile_columns,
-        tile_rows,
-        slice_map,
-        subpic_map,
-        subpic_across,
-        near.left,
-        near.right,
-    );
-    let down = axis_causes(
-        origin,
-        tile_columns,
-        tile_rows,
-        slice_map,
-        subpic_map,
-        subpic_across,
-        near.above,
-        near.below,
-    );
+    let across = axis_causes(layout, origin, near.left, near.right);
+    let down = axis_causes(layout, origin, near.above, near.below);
     let left = across.before;
     let right = across.after;
     let top = down.before;
@@ -170,7 +108,7 @@ pub fn sides_of(
         right: right,
         top: top,
         bottom: bottom,
-        upper_left: corner_disabled(origin, slice_map, near.upper_left),
-        lower_right: corner_disabled(origin, slice_map, near.lower_right),
+        upper_left: corner_disabled(layout, origin, near.upper_left),
+        lower_right: corner_disabled(layout, origin, near.lower_right),
     }
 }

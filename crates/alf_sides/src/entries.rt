@@ -1,5 +1,5 @@
 // An entry of the table: a CTB's sides and corners as one number. Three bits hold the cause of a side, in the order left, right, top,
-// bottom, and one bit after them each corner.
+// bottom, and one bit after them each corner. The conversions are functions and no From: Sides, ClipCause and u16 are all of other crates.
 ghost use Rattle.std.specs.Prelude.{◌≡◌, ◌≤◌};
 ghost use Rattle.alf_spec.specs.Answers.{cause_number};
 ghost use Rattle.alf_sides.specs.Entries.{corner_bit, entry_of, cause_numbered, sides_in};
@@ -8,51 +8,41 @@ use alf_boundary::causes::cause_number;
 use alf_spec::{ClipCause, Sides};
 
 // The number of a cause, as wide as an entry.
+#[tactic(auto, using(crate::proofs::EntrySides::cause_small))]
 fn cause_bits(cause: ClipCause) -> u16
     ensures { (result ≡ cause_number cause) × (result ≤ 5) }
 {
-    cause_number(cause) as u16
+    u16::from(cause_number(cause))
 }
 
 // The cause with this number.
+#[tactic(auto, unfolding(crate::specs::Entries::cause_numbered))]
 fn cause_numbered(n: u16) -> ClipCause
     ensures { result ≡ cause_numbered n }
 {
-    if n == 1 {
-        return ClipCause::LineBufferBoundary;
+    match n {
+        1 => ClipCause::LineBufferBoundary,
+        2 => ClipCause::VirtualBoundary,
+        3 => ClipCause::Tile,
+        4 => ClipCause::Slice,
+        5 => ClipCause::Subpicture,
+        _ => ClipCause::Open,
     }
-    if n == 2 {
-        return ClipCause::VirtualBoundary;
-    }
-    if n == 3 {
-        return ClipCause::Tile;
-    }
-    if n == 4 {
-        return ClipCause::Slice;
-    }
-    if n == 5 {
-        return ClipCause::Subpicture;
-    }
-    ClipCause::Open
 }
 
 // The bit of a corner: 1 where filtering across it is disabled.
 fn corner_bit(disabled: bool) -> u16
     ensures { (result ≡ corner_bit disabled) × (result ≤ 1) }
 {
-    if disabled { 1 } else { 0 }
+    u16::from(disabled)
 }
 
 // The entry for these sides.
 pub(crate) fn entry_of(sides: Sides) -> u16
     ensures { result ≡ entry_of sides }
 {
-    let left = sides.left;
-    let right = sides.right;
-    let top = sides.top;
-    let bottom = sides.bottom;
-    let columns = cause_bits(left) + 8 * cause_bits(right);
-    let rows = 64 * cause_bits(top) + 512 * cause_bits(bottom);
+    let columns = cause_bits(sides.left) + 8 * cause_bits(sides.right);
+    let rows = 64 * cause_bits(sides.top) + 512 * cause_bits(sides.bottom);
     let corners = 4096 * corner_bit(sides.upper_left) + 8192 * corner_bit(sides.lower_right);
     columns + rows + corners
 }

@@ -1,6 +1,6 @@
-// The table of the sides of all CTBs.
-ghost use Rattle.std.specs.Prelude.{◌≡◌, List, ℕ, ◌*◌, ◌≤◌, ◌<◌, length, get_or};
-ghost use Rattle.alf_spec.specs.Input.{layout_of};
+// The table of the sides of all CTBs. An entry is a number and no Sides: whoever has a table has it on the stack, where it takes 32 KB so,
+// and not 96.
+ghost use Rattle.std.specs.Prelude.{◌≡◌, ◌*◌, ◌≤◌, ◌<◌, length, get_or};
 ghost use Rattle.alf_math.specs.Grids.{GridOf};
 ghost use Rattle.alf_boundary.specs.Tables.{MembershipTables};
 ghost use Rattle.alf_sides.specs.Entries.{sides_in};
@@ -8,47 +8,24 @@ ghost use Rattle.alf_sides.specs.Planned.{SidesPlanned};
 
 use crate::entries::{entry_of, sides_in};
 use alf_boundary::sides::sides_of;
-use alf_spec::{Ctb, Grid, Picture, Sides};
+use alf_spec::{Ctb, Grid, Layout, Sides};
 
 // There are at most 128 by 128 CTBs.
 pub const CTBS: usize = 16384;
 
 // Writes an entry for each CTB of the picture into the table.
-pub fn plan_sides(
-    picture: Picture,
-    grid: Grid,
-    tile_columns: &[u8],
-    tile_rows: &[u8],
-    slice_map: &[u8],
-    subpic_map: &[u8],
-    subpic_across: &[u8],
-    table: &mut [u16],
-)
-    requires { (GridOf picture grid) × (grid.columns * grid.rows ≤ length table.old)
-        × (MembershipTables grid tile_columns.now tile_rows.now slice_map.now subpic_map.now subpic_across.now) }
-    ensures { (length table.new ≡ length table.old)
-        × ((columns rows : List ℕ) → SidesPlanned (layout_of picture columns rows tile_columns.now tile_rows.now
-        slice_map.now subpic_map.now subpic_across.now) table.new) }
+pub fn plan_sides(layout: &Layout, grid: Grid, table: &mut [u16])
+    requires { (GridOf layout.now.picture grid) × (grid.columns * grid.rows ≤ length table.old)
+        × (MembershipTables grid layout.now) }
+    ensures { (length table.new ≡ length table.old) × (SidesPlanned layout.now table.new) }
 {
-    let total = grid.columns * grid.rows;
-    let mut k = 0;
-    while k < total {
+    for k in 0..grid.columns * grid.rows {
         let ctb = Ctb {
             column: k % grid.columns,
             row: k / grid.columns,
         };
-        let sides = sides_of(
-            picture,
-            grid,
-            tile_columns,
-            tile_rows,
-            slice_map,
-            subpic_map,
-            subpic_across,
-            ctb,
-        );
+        let sides = sides_of(layout, grid, ctb);
         table[k as usize] = entry_of(sides);
-        k += 1;
     }
 }
 
