@@ -1,32 +1,61 @@
--- How an operation's judge comes to its answer: from that of the layout, and from that of its tables where the layout is accepted.
+-- How an operation's judge comes to its answer: from that of the layout, and from what comes after it where the layout is accepted.
 -- Assumes nothing.
-use mathlib.Core.Path.{◌≡◌, refl, sym, ◌∙◌, ap}
-use mathlib.Core.Bool.{Bool, true, false, ◌&&◌}
-use mathlib.Core.List.{List, []}
-use Prim.Native.Nat.{ℕ, ◌*◌}
+use Rattle.std.proofs.Common.{◌≡◌, refl, sym, ◌∙◌, ap, true, false, ◌&&◌, ℕ, ◌*◌, Bool, length, eqb, ltb}
 use borrow.Author.Tests.{eqb-true}
-use lib.Dec.{eqb, ltb}
-use lib.IntN.{ℤ}
-use lib.ListN.{length}
 use Rattle.alf_spec.specs.declared.Fault.{Fault}
 use Rattle.alf_spec.specs.declared.Filter.{Filter}
-use Rattle.alf_spec.specs.declared.Answer.{Answer}
-use Rattle.alf_spec.specs.declared.Answer.TheVariants as answer
+use Rattle.alf_spec.specs.declared.Filter.TheVariants.{Luma, Chroma, CrossComponent}
 use Rattle.alf_spec.specs.Lists.{every}
-use Rattle.alf_spec.specs.Input.{Layout, Input, input_of}
+use Rattle.alf_spec.specs.Input.{Layout, Operation, Input, with_output}
 use Rattle.alf_spec.specs.Filters.{operation_of}
 use Rattle.alf_spec.specs.Geometry.{plane_of, total_ctbs}
-use Rattle.alf_spec.specs.Answers.{number}
-use Rattle.alf_spec.specs.Faults.{bit_depth_valid, layout_lengths_valid, filter_lengths_valid, corners_valid, slice_corner, slices_valid}
-use Rattle.alf_spec.specs.Faults.{component_valid, layout_fault, fault}
+use Rattle.alf_spec.specs.Boundary.{slice_of}
+use Rattle.alf_spec.specs.Parameters.{ctb_param, slice_param}
+use Rattle.alf_spec.specs.Answers.{fault_number}
+use Rattle.alf_spec.specs.Faults.{bit_depth_valid, layout_lengths_valid, filter_lengths_valid, lengths_valid, corners_valid, slice_corner}
+use Rattle.alf_spec.specs.Faults.{slices_valid, slice_params_valid, ctb_ranges_valid, ctb_chroma_zero, ctb_params_valid_at, parameters_valid, bank_valid}
+use Rattle.alf_spec.specs.Faults.{fixed_valid, addresses_valid, component_valid, layout_fault, tables_fault, fault}
 use Rattle.alf_spec.proofs.Tests.{and_same, both}
 use Rattle.alf_spec.proofs.Accepted.{AcceptedLayout, table_lengths, chain}
-use Rattle.alf_spec.proofs.Faults.{layout_leaves, layout_goes}
-use Rattle.alf_math.proofs.Grids.{few_in_layout}
-use Rattle.alf_validate_tables.specs.Tables.{map_layout, tables_input, filter_tables_fault, TablesFit}
-use Rattle.alf_validate_tables.proofs.FilterTables.{tables_of, tables_of_lem, tables_fault_lem}
+use Rattle.alf_spec.proofs.Answers.{numbered}
+use Rattle.alf_spec.proofs.Faults.{layout_rejects, layout_accepts}
+use Rattle.alf_validate_tables.specs.Tables.{filter_tables_fault, TablesFit}
+use Rattle.alf_validate_tables.proofs.FilterTables.{tables_fault_lem}
 use Rattle.alf_validate.specs.Filters.{own_lengths_valid}
-use Rattle.alf_validate.proofs.OwnTests.{own_lengths_lem, own_same}
+
+module _ (l : Layout) (component lengths : Bool) where
+  module _ (rest : ℕ) where
+    -- the layout is rejected, and what comes after it is not judged
+    pub layout_stops : (f : Fault) → fault_number f ≡ layout_fault l component lengths 0
+        → layout_fault l component lengths rest ≡ fault_number f
+    layout_stops f e = let n = numbered f in layout_rejects l component lengths rest (sym e ∙ n) ∙ sym n
+
+    -- the layout is accepted, and what comes after it decides
+    pub layout_goes_on : 0 ≡ layout_fault l component lengths 0 → layout_fault l component lengths rest ≡ rest
+    layout_goes_on e = layout_accepts l component lengths rest (sym e)
+
+  passed : 0 ≡ layout_fault l component lengths 0 → AcceptedLayout l × (component ≡ true) × (lengths ≡ true)
+  passed e = let p = chain l component lengths 0 (sym e) in (p.0, p.1, p.2)
+
+  -- an accepted layout has a bit depth of 12 at most
+  pub accepted_depth : 0 ≡ layout_fault l component lengths 0 → bit_depth_valid l.picture ≡ true
+  accepted_depth e = (passed e).0.bit_depth
+
+pub ruleset layout_then = (layout_stops, layout_goes_on, accepted_depth)
+
+-- ---- a filter's judge
+
+-- its own lengths and those of the tables that the filters share are all that its operation asks for
+own_lengths_lem : (f : Filter) (i : Input) → (filter_lengths_valid i && own_lengths_valid f i) ≡ lengths_valid (operation_of f) i
+unfolding own_lengths_valid lengths_valid
+own_lengths_lem Luma i = refl
+own_lengths_lem (Chroma component) i = refl
+own_lengths_lem (CrossComponent component) i = refl
+
+-- causes 10 to 13 do not look at the output
+tables_same : (op : Operation) (i : Input) (n : ℕ) → tables_fault op (with_output n i) ≡ tables_fault op i
+unfolding tables_fault parameters_valid slice_params_valid ctb_params_valid_at ctb_ranges_valid ctb_chroma_zero ctb_param slice_param slice_of plane_of bank_valid fixed_valid addresses_valid
+tables_same op i n = refl
 
 -- a test that counts only where the one before it passes
 beside : (a b c : Bool) → (a ≡ true → b ≡ c) → (a && b) ≡ (a && c)
@@ -34,9 +63,8 @@ beside true b c f = f refl
 beside false b c f = refl
 
 -- what an accepted layout and the lengths of a filter's tables say
-tables_fit : (i : Input) → AcceptedLayout i.layout → filter_lengths_valid i ≡ true
-    → TablesFit i.layout.picture i.layout.slice_map i.slice_params i.ctb_params
-unfolding filter_lengths_valid slices_valid plane_of
+tables_fit : (i : Input) → AcceptedLayout i.layout → filter_lengths_valid i ≡ true → TablesFit i
+unfolding filter_lengths_valid slices_valid
 tables_fit i ok lengths =
     let l = i.layout in
     let full = (table_lengths l ok.lengths).slice_map in
@@ -52,59 +80,36 @@ tables_fit i ok lengths =
         ctb_length = params ∙ ap (λ (n : ℕ). 8 * n) (sym full);
       };
       full = full;
-      few = rw full (few_in_layout l ok.sizes ok.ctb_size);
     }
 
--- the code has the layout's answer a
-module _ (l : Layout) (component lengths : Bool) (a : Answer) (judged : number a ≡ layout_fault l component lengths 0)
-    (told : a ≡ answer.Accepted) where
-  passed : AcceptedLayout l × (component ≡ true) × (lengths ≡ true)
-  passed = let p = chain l component lengths 0 (sym judged ∙ ap number told) in (p.0, p.1, p.2)
+-- the code has the answer r of the tables that the filters share, which counts only where the slice map has an entry for each CTB
+module _ (i : Input) (component r own : Bool) (fit : length i.layout.slice_map ≡ total_ctbs i.layout → r ≡ filter_lengths_valid i) where
+  -- where the layout is accepted, the judge of the tables may be asked
+  pub filter_fits : 0 ≡ layout_fault i.layout component (r && own) 0 → TablesFit i
+  filter_fits e =
+      let p = passed i.layout component (r && own) e in
+      tables_fit i p.0 (sym (fit (table_lengths i.layout p.0.lengths).slice_map) ∙ (both r own p.2).0)
 
-  pub depth_of_lem : bit_depth_valid l.picture ≡ true
-  depth_of_lem = passed.0.bit_depth
-
--- a filter's code has, beside its own tests, the answer r to that of the tables that the filters share
-module _ (l : Layout) (component own r : Bool) (slice_params : List ℕ) (bank : List ℤ) (ctb_params : List ℕ)
-    (fit : length l.slice_map ≡ total_ctbs (map_layout l.picture l.slice_map)
-    → r ≡ filter_lengths_valid (tables_input l.picture l.slice_map slice_params bank ctb_params [] [] [] [] []))
-    (a : Answer) (judged : number a ≡ layout_fault l component (r && own) 0) where
-  pub filter_fits : a ≡ answer.Accepted → TablesFit l.picture l.slice_map slice_params ctb_params
-  unfolding filter_lengths_valid plane_of
-  filter_fits told =
-      let p = passed l component (r && own) a judged told in
-      tables_fit (input_of l [] [] slice_params bank ctb_params [] [] [] 0) p.0 (sym (fit (table_lengths l p.0.lengths).slice_map)
-      ∙ (both r own p.2).0)
-
-  -- the filter f, whose own tests these are
-  module _ (f : Filter) (luma_samples chroma_samples ctb_list : List ℕ) (fixed_filters : List ℤ) (fixed_map : List ℕ) (n : ℕ)
-      (chosen : component ≡ component_valid (operation_of f) l.picture)
-      (lengths : own
-      ≡ own_lengths_valid f (input_of (map_layout l.picture []) luma_samples chroma_samples [] [] [] [] fixed_filters fixed_map n)) where
-    abbrev i : Input
-    i = input_of l luma_samples chroma_samples slice_params bank ctb_params ctb_list fixed_filters fixed_map n
-
-    -- r counts only where the slice map has an entry for each CTB, and there it is the filter's test
-    layout-same : layout_fault l component (r && own) 0 ≡ layout_fault l component (filter_lengths_valid i && own) 0
-    unfolding layout_fault filter_lengths_valid plane_of
-    layout-same =
-        rw (beside (layout_lengths_valid l) (r && own) (filter_lengths_valid i && own) (λ e. and_same (fit (table_lengths l e).slice_map) refl))
-
-    -- the tests are those of the filter's operation
-    filter_fault_lem : layout_fault l component (filter_lengths_valid i && own) (filter_tables_fault f i) ≡ fault (operation_of f) i
-    unfolding fault
-    filter_fault_lem =
+  module _ (f : Filter) (n : ℕ) (chosen : component ≡ component_valid (operation_of f) i.layout.picture)
+      (lengths : own ≡ own_lengths_valid f (with_output n i)) where
+    filter_same : layout_fault i.layout component (r && own) (filter_tables_fault f i) ≡ fault (operation_of f) (with_output n i)
+    unfolding fault layout_fault filter_lengths_valid plane_of
+    filter_same =
         rw (
+          beside (layout_lengths_valid i.layout) (r && own) (filter_lengths_valid i && own) (λ e. and_same (fit (table_lengths i.layout e).slice_map) refl),
           chosen,
           lengths,
-          own_same l slice_params bank ctb_params ctb_list luma_samples chroma_samples fixed_filters fixed_map n f,
-          own_lengths_lem f i,
+          own_lengths_lem f (with_output n i),
           tables_fault_lem f i,
+          ← tables_same (operation_of f) i n,
         )
 
-    pub filter_rejects : {e : Fault} → a ≡ answer.Rejected e → number a ≡ fault (operation_of f) i
-    filter_rejects told = layout_leaves l _ _ _ _ layout-same (filter_tables_fault f i) a judged told ∙ filter_fault_lem
+    pub filter_stops : (e : Fault) → fault_number e ≡ layout_fault i.layout component (r && own) 0
+        → fault (operation_of f) (with_output n i) ≡ fault_number e
+    filter_stops e judged = sym filter_same ∙ layout_stops i.layout component (r && own) (filter_tables_fault f i) e judged
 
-    pub filter_accepts : a ≡ answer.Accepted → {m : ℕ} → m ≡ filter_tables_fault f (tables_of i) → m ≡ fault (operation_of f) i
-    filter_accepts told e =
-        layout_goes l _ _ _ _ layout-same (filter_tables_fault f i) a judged told (e ∙ tables_of_lem f i) ∙ filter_fault_lem
+    pub filter_goes_on : 0 ≡ layout_fault i.layout component (r && own) 0
+        → fault (operation_of f) (with_output n i) ≡ filter_tables_fault f i
+    filter_goes_on judged = sym filter_same ∙ layout_goes_on i.layout component (r && own) (filter_tables_fault f i) judged
+
+pub ruleset filter_then = (filter_fits, filter_stops, filter_goes_on)

@@ -1,7 +1,6 @@
 // Judging an input: the lowest fault, by paper 01's table, of each operation's input. No judge asks anything of its caller.
 #![tactic(auto)]
 
-mod answers;
 mod causes;
 mod isolation;
 mod judges;

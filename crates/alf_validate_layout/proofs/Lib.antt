@@ -1,4 +1,3 @@
 -- Laws that the proofs of this crate, and of those above it, cite.
-pub mod CornerLoops
-pub mod EveryEntry
+pub mod Every
 pub mod Layouts

@@ -1,72 +1,44 @@
 // The lowest of causes 1 to 9, which every operation judges.
 ghost use Rattle.std.specs.Prelude.{◌≡◌};
-ghost use Rattle.alf_spec.specs.Input.{layout_of};
-ghost use Rattle.alf_spec.specs.Answers.{number};
+ghost use Rattle.alf_spec.specs.Answers.{number_of};
 ghost use Rattle.alf_spec.specs.Faults.{layout_fault};
 
 use crate::lengths::layout_lengths_valid;
 use crate::maps::{slices_valid, subpictures_valid};
 use crate::picture::{bit_depth_valid, chroma_format_valid, ctb_size_valid, picture_size_valid};
+use crate::require::require;
 use crate::tiles::tiles_valid;
 use crate::virtual_boundaries::virtual_boundaries_valid;
 use alf_math::grid::grid;
-use alf_spec::{Answer, Fault, Picture};
+use alf_spec::{Fault, Layout};
 
-// The lowest of causes 1 to 9, and the answer `rest` where none of them applies. An operation judges its component, beside cause 4, and the
-// lengths of what else it is given, beside 5.
+// The lowest of causes 1 to 9. An operation judges its component, beside cause 4, and the lengths of what else it is given, beside 5.
+#[tactic(auto, using(crate::proofs::Layouts::full_maps), unfolding(alf_spec::specs::Faults::layout_fault, alf_spec::specs::Faults::unless))]
 pub fn layout_fault(
-    picture: Picture,
-    virtual_columns: &[u16],
-    virtual_rows: &[u16],
-    tile_columns: &[u8],
-    tile_rows: &[u8],
-    slice_map: &[u8],
-    subpic_map: &[u8],
-    subpic_across: &[u8],
+    layout: &Layout,
     component_valid: bool,
     lengths_valid: bool,
-    rest: Answer,
-) -> Answer
-    ensures { number result ≡ layout_fault (layout_of picture virtual_columns.now virtual_rows.now
-        tile_columns.now tile_rows.now slice_map.now subpic_map.now
-        subpic_across.now) component_valid lengths_valid (number rest) }
+) -> Result<(), Fault>
+    ensures { number_of result ≡ layout_fault layout.now component_valid lengths_valid 0 }
 {
-    if !picture_size_valid(picture) {
-        return Answer::Rejected(Fault::PictureSize);
-    }
-    if !ctb_size_valid(picture) {
-        return Answer::Rejected(Fault::CtbSize);
-    }
-    if !bit_depth_valid(picture) {
-        return Answer::Rejected(Fault::BitDepth);
-    }
-    if !(chroma_format_valid(picture) & component_valid) {
-        return Answer::Rejected(Fault::ChromaFormat);
-    }
+    let picture = layout.picture;
+    require(picture_size_valid(picture), Fault::PictureSize)?;
+    require(ctb_size_valid(picture), Fault::CtbSize)?;
+    require(bit_depth_valid(picture), Fault::BitDepth)?;
+    require(
+        chroma_format_valid(picture) & component_valid,
+        Fault::ChromaFormat,
+    )?;
     let grid = grid(picture);
-    let tables_valid = layout_lengths_valid(
-        picture,
-        grid,
-        tile_columns,
-        tile_rows,
-        slice_map,
-        subpic_map,
-        subpic_across,
-    );
-    if !(tables_valid & lengths_valid) {
-        return Answer::Rejected(Fault::Length);
-    }
-    if !virtual_boundaries_valid(picture, grid, virtual_columns, virtual_rows) {
-        return Answer::Rejected(Fault::VirtualBoundary);
-    }
-    if !tiles_valid(tile_columns, tile_rows) {
-        return Answer::Rejected(Fault::Tile);
-    }
-    if !slices_valid(picture, grid, slice_map) {
-        return Answer::Rejected(Fault::Slice);
-    }
-    if !subpictures_valid(picture, grid, subpic_map, subpic_across) {
-        return Answer::Rejected(Fault::Subpicture);
-    }
-    rest
+    require(
+        layout_lengths_valid(layout, grid) & lengths_valid,
+        Fault::Length,
+    )?;
+    require(
+        virtual_boundaries_valid(layout, grid),
+        Fault::VirtualBoundary,
+    )?;
+    require(tiles_valid(layout), Fault::Tile)?;
+    require(slices_valid(layout, grid), Fault::Slice)?;
+    require(subpictures_valid(layout, grid), Fault::Subpicture)
 }

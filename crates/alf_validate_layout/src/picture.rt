@@ -12,6 +12,7 @@ fn size_valid(size: u32) -> bool
 }
 
 // Cause 1: width and height.
+#[tactic(auto, unfolding(alf_spec::specs::Faults::picture_size_valid))]
 pub fn picture_size_valid(picture: Picture) -> bool
     ensures { result ≡ picture_size_valid picture }
 {
@@ -19,6 +20,7 @@ pub fn picture_size_valid(picture: Picture) -> bool
 }
 
 // Cause 2: the CTB exponent.
+#[tactic(auto, unfolding(alf_spec::specs::Faults::ctb_size_valid))]
 pub fn ctb_size_valid(picture: Picture) -> bool
     ensures { result ≡ ctb_size_valid picture }
 {
@@ -33,6 +35,7 @@ pub fn depth_valid(bit_depth: u8) -> bool
 }
 
 // Cause 3: the bit depth.
+#[tactic(auto, unfolding(alf_spec::specs::Faults::bit_depth_valid))]
 pub fn bit_depth_valid(picture: Picture) -> bool
     ensures { result ≡ bit_depth_valid picture }
 {
@@ -40,6 +43,7 @@ pub fn bit_depth_valid(picture: Picture) -> bool
 }
 
 // Cause 4: the chroma format. Whether the operation may have chroma, and its component, are judged beside it.
+#[tactic(auto, unfolding(alf_spec::specs::Faults::chroma_format_valid))]
 pub fn chroma_format_valid(picture: Picture) -> bool
     ensures { result ≡ chroma_format_valid picture }
 {

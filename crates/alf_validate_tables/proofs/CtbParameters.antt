@@ -1,13 +1,7 @@
 -- The parameters of a CTB by its address. Assumes nothing.
-use mathlib.Core.Path.{◌≡◌, ap}
-use mathlib.Core.List.{List}
-use Prim.Native.Nat.{ℕ, ◌+◌, ◌*◌, ◌<◌}
-use native.Mathlib.Nat.{add-zero, div-add-mod'}
-use native.Mathlib.Omega.{arith}
+use Rattle.std.proofs.Common.{◌≡◌, ap, ℕ, ◌+◌, ◌*◌, ◌<◌, length, get_or, ltb, arith, add-zero}
+use Rattle.std.proofs.Math.Nat.{div-add-mod'}
 use borrow.Author.Tests.{ltb-true}
-use lib.Dec.{ltb}
-use lib.ListN.{length, get_or}
-use Rattle.alf_spec.specs.declared.Picture.{Picture}
 use Rattle.alf_spec.specs.Input.{Input}
 use Rattle.alf_spec.specs.Geometry.{ctb_columns, address, ctb_of}
 use Rattle.alf_spec.specs.Boundary.{slice_of}
@@ -15,15 +9,14 @@ use Rattle.alf_spec.specs.Parameters.{ctb_param, slice_param}
 use Rattle.alf_spec.proofs.Tests.{every-at}
 use Rattle.alf_validate_tables.specs.Tables.{ParametersFit}
 
--- the first of a slice's parameters stands in the table
-pub slice_params_lem : (p : Picture) (slice_map slice_params ctb_params : List ℕ) → ParametersFit p slice_map slice_params ctb_params
-    → (k : ℕ) → k < length slice_map → 11 * get_or slice_map k 0 < length slice_params
-slice_params_lem p slice_map slice_params ctb_params fit k h =
-    let e = every-at 0 0 (λ _ n. ltb n p.slice_count) slice_map fit.slices k h in
-    let l = ltb-true (get_or slice_map k 0) p.slice_count e in
-    omega (arith, fit.slice_length)
-
 module _ (i : Input) (k : ℕ) where
+  -- the first of a slice's parameters stands in the table
+  pub slice_params_fit : ParametersFit i → k < length i.layout.slice_map → 11 * get_or i.layout.slice_map k 0 < length i.slice_params
+  slice_params_fit fit h =
+      let e = every-at 0 0 (λ _ n. ltb n i.layout.picture.slice_count) i.layout.slice_map fit.slices k h in
+      let l = ltb-true (get_or i.layout.slice_map k 0) i.layout.picture.slice_count e in
+      omega (arith, fit.slice_length)
+
   -- the CTB at an address has that address
   same_address : address i.layout (ctb_of i.layout k) ≡ k
   same_address = div-add-mod' k (ctb_columns i.layout)

@@ -2,5 +2,5 @@
 pub mod BitDepth
 pub mod CtbParameters
 pub mod FilterTables
-pub mod SignedEntries
+pub mod Places
 pub mod TableLengths

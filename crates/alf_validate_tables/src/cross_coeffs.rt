@@ -11,19 +11,12 @@ use alf_spec::Filter;
 fn judges_cross(filter: Filter) -> bool
     ensures { result ≡ judges_cross (operation_of filter) }
 {
-    match filter {
-        Filter::Luma => false,
-        Filter::Chroma(_) => false,
-        Filter::CrossComponent(_) => true,
-    }
+    matches!(filter, Filter::CrossComponent(_))
 }
 
 // Whether H.266 can send all that a filter judges of a bank's cross-component coefficients.
 pub fn cross_coeffs_valid(filter: Filter, bank: &[i16]) -> bool
     ensures { result ≡ implies (judges_cross (operation_of filter)) (cross_filters_valid bank.now) }
 {
-    if judges_cross(filter) {
-        return cross_filters_valid(bank);
-    }
-    true
+    !judges_cross(filter) || cross_filters_valid(bank)
 }

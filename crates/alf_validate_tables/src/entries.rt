@@ -1,4 +1,4 @@
-// Tests of every sample or coefficient. The loops go on past one that fails, so that they can run as vector code.
+// Tests of every sample or coefficient. The folds go on past one that fails, so that they can run as vector code.
 ghost use Rattle.std.specs.Prelude.{◌≡◌, ltb};
 ghost use Rattle.alf_spec.specs.Lists.{every};
 ghost use Rattle.alf_spec.specs.Faults.{coeff_valid};
@@ -7,16 +7,11 @@ ghost use Rattle.alf_spec.specs.Faults.{coeff_valid};
 pub fn samples_below(list: &[u16], limit: u16) -> bool
     ensures { result ≡ every (λ n. ltb n limit) list.now }
 {
-    let mut good = true;
-    let mut i = 0;
-    while i < list.len() {
-        good = good & (list[i] < limit);
-        i += 1;
-    }
-    good
+    list.iter().fold(true, |good, n| good & (*n < limit))
 }
 
 // Whether a coefficient is from -128 to 127.
+#[tactic(auto, unfolding(alf_spec::specs::Faults::coeff_valid))]
 pub fn coeff_valid(coefficient: i16) -> bool
     ensures { result ≡ coeff_valid coefficient }
 {
@@ -27,11 +22,5 @@ pub fn coeff_valid(coefficient: i16) -> bool
 pub fn coefficients_valid(list: &[i16]) -> bool
     ensures { result ≡ every coeff_valid list.now }
 {
-    let mut good = true;
-    let mut i = 0;
-    while i < list.len() {
-        good = good & coeff_valid(list[i]);
-        i += 1;
-    }
-    good
+    list.iter().fold(true, |good, n| good & coeff_valid(*n))
 }

@@ -1,15 +1,14 @@
 // Cause 5, the operations' part: the lengths of what an operation is given beside the layout, and of its output. The slice map has an entry
 // for each CTB where the layout's own lengths are right, so that its length stands for the number of CTBs.
-ghost use Rattle.std.specs.Prelude.{◌≡◌, [], ◌*◌, ◌/◌, ◌<◌, eqb, length};
-ghost use Rattle.alf_spec.specs.Input.{Layout};
+ghost use Rattle.std.specs.Prelude.{◌≡◌, ◌*◌, ◌/◌, ◌<◌, eqb, length};
 ghost use Rattle.alf_spec.specs.Geometry.{total_ctbs, chroma_plane, plane_length};
 ghost use Rattle.alf_spec.specs.Faults.{filter_lengths_valid};
-ghost use Rattle.alf_validate_tables.specs.Tables.{map_layout, tables_input};
 
 use alf_math::grid::{sub_height, sub_width};
-use alf_spec::Picture;
+use alf_spec::{FilterInput, Layout, Picture};
 
 // Whether a plane of the picture, with so many luma samples to one of its own in a row and in a column, has this length.
+#[tactic(auto, using(crate::proofs::TableLengths::product_fits))]
 pub fn plane_fits(picture: Picture, columns: u32, rows: u32, length: usize) -> bool
     requires { (0 < columns) × (0 < rows) }
     ensures { result ≡ eqb length (picture.width / columns * (picture.height / rows)) }
@@ -18,15 +17,17 @@ pub fn plane_fits(picture: Picture, columns: u32, rows: u32, length: usize) -> b
 }
 
 // Whether a chroma plane has this length.
-pub fn chroma_fits(picture: Picture, length: usize) -> bool
-    ensures { (l : Layout) → l.picture ≡ picture → result ≡ eqb length (plane_length (chroma_plane l)) }
+#[tactic(auto, unfolding(alf_spec::specs::Geometry::plane_of))]
+pub fn chroma_fits(layout: &Layout, length: usize) -> bool
+    ensures { result ≡ eqb length (plane_length (chroma_plane layout.now)) }
 {
-    let across = sub_width(picture);
-    let down = sub_height(picture);
-    plane_fits(picture, across, down, length)
+    let across = sub_width(layout.picture);
+    let down = sub_height(layout.picture);
+    plane_fits(layout.picture, across, down, length)
 }
 
 // Whether there are eight numbers for each CTB.
+#[tactic(auto, using(crate::proofs::TableLengths::eight_each))]
 fn ctb_params_fit(slice_map: usize, ctb_params: usize) -> bool
     ensures { result ≡ eqb ctb_params (8 * slice_map) }
 {
@@ -34,17 +35,12 @@ fn ctb_params_fit(slice_map: usize, ctb_params: usize) -> bool
 }
 
 // What the three filters share: whether slice parameters, bank and CTB parameters have the lengths that they should.
-pub fn filter_tables_fit(
-    picture: Picture,
-    slice_map: &[u8],
-    slice_params: &[u8],
-    bank: &[i16],
-    ctb_params: &[u8],
-) -> bool
-    ensures { length slice_map.now ≡ total_ctbs (map_layout picture slice_map.now)
-        → result ≡ filter_lengths_valid (tables_input picture slice_map.now slice_params.now bank.now
-        ctb_params.now [] [] [] [] []) }
+#[tactic(auto, unfolding(alf_spec::specs::Faults::filter_lengths_valid))]
+pub fn filter_tables_fit(input: &FilterInput) -> bool
+    ensures { length input.now.layout.slice_map ≡ total_ctbs input.now.layout → result ≡ filter_lengths_valid input.now }
 {
-    (slice_params.len() as u64 == 11 * (picture.slice_count as u64))
-        & ((bank.len() == 8 * 752) & ctb_params_fit(slice_map.len(), ctb_params.len()))
+    let layout = &input.layout;
+    (input.slice_params.len() as u64 == 11 * (layout.picture.slice_count as u64))
+        & ((input.bank.len() == 8 * 752)
+            & ctb_params_fit(layout.slice_map.len(), input.ctb_params.len()))
 }

@@ -1,15 +1,15 @@
 // Causes 12 and 13: samples, and the addresses of the CTB list.
-ghost use Rattle.std.specs.Prelude.{◌≡◌, true, ◌&&◌, []};
-ghost use Rattle.alf_spec.specs.Lists.{implies};
-ghost use Rattle.alf_spec.specs.Input.{Layout, given, input_of};
+ghost use Rattle.std.specs.Prelude.{◌≡◌, true, ◌&&◌, ltb};
+ghost use Rattle.alf_spec.specs.Lists.{implies, every};
+ghost use Rattle.alf_spec.specs.Input.{given};
 ghost use Rattle.alf_spec.specs.Filters.{operation_of};
-ghost use Rattle.alf_spec.specs.Geometry.{total_ctbs};
-ghost use Rattle.alf_spec.specs.Faults.{bit_depth_valid, samples_valid, addresses_valid};
+ghost use Rattle.alf_spec.specs.Faults.{bit_depth_valid, samples_valid};
 
 use crate::entries::samples_below;
-use alf_spec::{Filter, Picture};
+use alf_spec::{Filter, FilterInput, Picture};
 
 // Whether each sample of a plane is below 1 << BitDepth.
+#[tactic(auto, using(crate::proofs::BitDepth::one_shifted), unfolding(alf_spec::specs::Faults::bit_depth_valid, alf_spec::specs::Faults::samples_valid))]
 pub fn samples_valid(picture: Picture, plane: &[u16]) -> bool
     requires { bit_depth_valid picture ≡ true }
     ensures { result ≡ samples_valid picture plane.now }
@@ -18,28 +18,27 @@ pub fn samples_valid(picture: Picture, plane: &[u16]) -> bool
 }
 
 // Whether the samples of the planes that a filter is given are valid.
-pub fn planes_valid(filter: Filter, picture: Picture, luma: &[u16], chroma: &[u16]) -> bool
-    requires { bit_depth_valid picture ≡ true }
-    ensures { result ≡ (implies (given (operation_of filter)).luma (samples_valid picture luma.now)
-        && implies (given (operation_of filter)).chroma (samples_valid picture chroma.now)) }
+pub fn planes_valid(filter: Filter, input: &FilterInput) -> bool
+    requires { bit_depth_valid input.now.layout.picture ≡ true }
+    ensures { result ≡ (implies (given (operation_of filter)).luma (samples_valid input.now.layout.picture input.now.luma)
+        && implies (given (operation_of filter)).chroma (samples_valid input.now.layout.picture input.now.chroma)) }
 {
+    let picture = input.layout.picture;
     match filter {
-        Filter::Luma => samples_valid(picture, luma),
-        Filter::Chroma(_) => samples_valid(picture, chroma),
-        Filter::CrossComponent(_) => samples_valid(picture, luma) & samples_valid(picture, chroma),
+        Filter::Luma => samples_valid(picture, input.luma),
+        Filter::Chroma(_) => samples_valid(picture, input.chroma),
+        Filter::CrossComponent(_) => {
+            samples_valid(picture, input.luma) & samples_valid(picture, input.chroma)
+        }
     }
 }
 
-// Whether each address of the list is below the number of CTBs. The loop goes on past one that fails, so that it can run as vector code.
+// Whether each address of the list is below the number of CTBs. The fold goes on past one that fails, so that it can run as vector code.
 pub fn addresses_valid(ctb_total: usize, ctb_list: &[u32]) -> bool
-    ensures { (l : Layout) → total_ctbs l ≡ ctb_total
-        → result ≡ addresses_valid (input_of l [] [] [] [] [] ctb_list.now [] [] 0) }
+    ensures { result ≡ every (λ n. ltb n ctb_total) ctb_list.now }
 {
-    let mut good = true;
-    let mut i = 0;
-    while i < ctb_list.len() {
-        good = good & ((ctb_list[i] as usize) < ctb_total);
-        i += 1;
-    }
-    good
+    ctb_list.iter().fold(
+        true,
+        |good, address| good & ((*address as usize) < ctb_total),
+    )
 }

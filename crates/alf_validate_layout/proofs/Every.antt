@@ -1,0 +1,102 @@
+-- What a chain that tests every entry, every place, or every two neighbours of a list comes to, in the words of `alf_spec`. Assumes
+-- nothing.
+use Rattle.std.proofs.Common.{◌≡◌, refl, sym, ◌∙◌, ap, ℕ, zero, suc, ◌+◌, ◌-◌, ◌<◌, ◌≤◌, Bool, true, false, ◌&&◌, List, [], ◌∷◌, length, get_or, take, drop, fold, arith, add-one, add-zero, sub-one}
+use Rattle.std.specs.List.{list_all, range_with_len}
+use Rattle.std.proofs.Math.Bool.{and-true, and_assoc}
+use Rattle.std.specs.Slice.Iter.{windows_rest, windows_size}
+use Rattle.std.proofs.lemmas.Iterator.{YieldsList}
+use Rattle.std.proofs.lemmas.Iterator.Splits.{YieldsList-from_shown_while}
+use Rattle.std.specs.Prelude.{Option, MatchOption}
+use Rattle.std.specs.declared.slice.Windows.{Windows}
+use denote.Ref.{Bor}
+use Rattle.alf_spec.specs.Lists.{all_below, every_from, every}
+use Rattle.alf_spec.proofs.Tests.{all_same}
+
+-- ---- every entry
+
+module _ {A : Type 0} (test : A → Bool) where
+  fold_from : (k : ℕ) (good : Bool) (xs : List A) → fold (λ b x. b && test x) good xs ≡ (good && every_from k (λ _ x. test x) xs)
+  unfolding every_from
+  fold_from k true [] = refl
+  fold_from k false [] = refl
+  fold_from k true (x ∷ xs) = fold_from (suc k) (test x) xs
+  fold_from k false (x ∷ xs) = fold_from (suc k) false xs
+
+  -- a fold that goes on past an entry that fails
+  pub every-from_fold : (xs : List A) → fold (λ b x. b && test x) true xs ≡ every test xs
+  every-from_fold xs = fold_from 0 true xs
+
+  all_from : (k : ℕ) (xs : List A) → list_all test xs ≡ every_from k (λ _ x. test x) xs
+  unfolding every_from
+  all_from k [] = refl
+  all_from k (x ∷ xs) = ap (λ b. test x && b) (all_from (suc k) xs)
+
+  pub every-from_all : (xs : List A) → list_all test xs ≡ every test xs
+  every-from_all xs = all_from 0 xs
+
+-- ---- every place
+
+first_below : (n : ℕ) (test : ℕ → Bool) → all_below (suc n) test ≡ (test 0 && all_below n (λ k. test (suc k)))
+unfolding all_below
+first_below zero test = sym (and-true (test 0))
+first_below (suc n) test = rw (first_below n test) (and_assoc (test 0) (all_below n (λ k. test (suc k))) (test (suc n)))
+
+below_from : (test : ℕ → Bool) (a n : ℕ) → list_all test (range_with_len a n) ≡ all_below n (λ k. test (a + k))
+unfolding all_below
+below_from test a zero = refl
+below_from test a (suc n) =
+    rw (first_below n (λ k. test (a + k)), add-zero, below_from test (a + 1) n)
+    (ap (λ b. test a && b) (all_same n (λ k h. ap test (omega arith))))
+
+pub below-from_all : (test : ℕ → Bool) (n : ℕ) → list_all test (range_with_len 0 n) ≡ all_below n test
+below-from_all test n = below_from test 0 n ∙ all_same n (λ k h. ap test (omega arith))
+
+-- ---- every two neighbours
+
+abbrev pairs_from : ℕ → List ℕ → List (List ℕ)
+pairs_from x [] = []
+pairs_from x (y ∷ ys) = (x ∷ y ∷ []) ∷ pairs_from y ys
+
+abbrev pub pairs : List ℕ → List (List ℕ)
+pairs [] = []
+pairs (x ∷ xs) = pairs_from x xs
+
+first_pair : (xs : List ℕ) → 2 ≤ length xs → pairs xs ≡ take 2 xs ∷ pairs (drop 1 xs)
+first_pair [] h = absurd (omega arith)
+first_pair (x ∷ []) h = absurd (omega arith)
+first_pair (x ∷ y ∷ ys) h = refl
+
+no_pair : (xs : List ℕ) → length xs < 2 → length (pairs xs) ≡ 0
+no_pair [] h = refl
+no_pair (x ∷ []) h = refl
+no_pair (x ∷ y ∷ ys) h = absurd (omega arith)
+
+-- how the windows of a list come
+abbrev steps : Windows ℕ → Option (Bor (List ℕ)) → Windows ℕ → Type 0
+steps s r t = (windows_size t ≡ windows_size s) × MatchOption r ((length (windows_rest s) < windows_size s) × (t ≡ s))
+    (λ x. (windows_size s ≤ length (windows_rest s)) × (x.now ≡ take (windows_size s) (windows_rest s))
+    × (windows_rest t ≡ drop 1 (windows_rest s)) × (length x.now ≡ windows_size s))
+
+pub YieldsList-from_windows : {s : Windows ℕ} (xs : List ℕ) → windows_rest s ≡ xs → windows_size s ≡ 2
+    → YieldsList steps (λ x. x.now) s (pairs xs)
+YieldsList-from_windows {s} xs e two =
+    rw (← e)
+    (YieldsList-from_shown_while steps (λ x. x.now) (λ t. pairs (windows_rest t)) (λ t. windows_size t ≡ 2)
+    (λ t u p h. no_pair (windows_rest t) (omega (arith, p, h.1.0)))
+    (λ t x u p h. (h.0 ∙ p, first_pair (windows_rest t) (omega (arith, p, h.1.0)) ∙ cc))
+    s two)
+
+module _ (test : ℕ → ℕ → Bool) where
+  neighbours_from : (x : ℕ) (ys : List ℕ) → list_all (λ p. test (get_or p 0 0) (get_or p 1 0)) (pairs_from x ys)
+      ≡ all_below (length ys) (λ k. test (get_or (x ∷ ys) k 0) (get_or (x ∷ ys) (suc k) 0))
+  unfolding all_below
+  neighbours_from x [] = refl
+  neighbours_from x (y ∷ ys) =
+      ap (λ b. test x y && b) (neighbours_from y ys)
+      ∙ sym (first_below (length ys) (λ k. test (get_or (x ∷ y ∷ ys) k 0) (get_or (x ∷ y ∷ ys) (suc k) 0)))
+
+  pub neighbours-from_all : (xs : List ℕ) → list_all (λ p. test (get_or p 0 0) (get_or p 1 0)) (pairs xs)
+      ≡ all_below (length xs - 1) (λ k. test (get_or xs k 0) (get_or xs (k + 1) 0))
+  unfolding all_below
+  neighbours-from_all [] = refl
+  neighbours-from_all (x ∷ xs) = simp (sub-one, add-one) (neighbours_from x xs)
