@@ -1,16 +1,12 @@
 -- What a filter reads for a CTB, all of it from one input. Assumes nothing.
-use Rattle.std.specs.Prelude.{◌≡◌, true, List, ℕ, ◌*◌, ◌/◌, ◌%◌, ◌<◌}
+use Rattle.std.specs.Prelude.{◌≡◌, true, List, ℕ, ◌*◌, ◌<◌}
 use Rattle.alf_spec.specs.declared.Filter.{Filter}
 use Rattle.alf_spec.specs.declared.Grid.{Grid}
-use Rattle.alf_spec.specs.declared.Sides.{Sides}
-use Rattle.alf_spec.specs.Input.{Layout, Input, with_output}
+use Rattle.alf_spec.specs.Input.{Input, with_output}
 use Rattle.alf_spec.specs.Geometry.{ctb_size}
 use Rattle.alf_spec.specs.Faults.{virtual_list_valid, fault}
 use Rattle.alf_spec.specs.Filters.{operation_of}
-use Rattle.alf_boundary.specs.Clips.{column_axis, row_axis}
-use Rattle.alf_pieces.specs.Walks.{Axes}
 use Rattle.alf_params.specs.Tables.{CtbTables}
-use Rattle.alf_ctb.specs.Filters.{walk_line}
 use Rattle.alf_ctb.specs.Tables.{ComponentOf, FixedGiven}
 use Rattle.alf_ctb.specs.FilterWork.{PlanesGiven}
 
@@ -27,12 +23,3 @@ pub record TablesAccepted (f : Filter) (i : Input) (g : Grid) (orders : List ℕ
 pub record TablesIn (f : Filter) (i own : Input) : Type 0 where
   pub accepted : fault (operation_of f) i ≡ 0
   pub same : with_output 0 i ≡ with_output 0 own
-
--- the axes through the CTB at address k, with the line at which a filter's pieces end
-abbrev pub axes_at : Filter → Layout → Grid → Sides → ℕ → Axes
-axes_at f l g sides k = record {
-  columns = column_axis l.picture g sides (k % g.columns);
-  virtual_columns = l.virtual_columns;
-  rows = row_axis l.picture g sides (walk_line f) (k / g.columns);
-  virtual_rows = l.virtual_rows;
-}

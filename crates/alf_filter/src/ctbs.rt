@@ -1,36 +1,21 @@
 // The CTBs of a picture, filtered: those that are marked. The sides of each are in a table, and so is its mark: neither tiles nor
 // subpictures nor the list are asked here.
-ghost use Rattle.std.specs.Prelude.{◌≡◌, ◌*◌, ◌/◌, ◌%◌, ◌≤◌, ◌<◌, length};
+ghost use Rattle.std.specs.Prelude.{◌≡◌, ◌*◌, ◌/◌, ◌<◌, length};
 ghost use Rattle.alf_spec.specs.Input.{Input};
 ghost use Rattle.alf_taps.specs.Spread.{TapNumbers};
 ghost use Rattle.alf_sides.specs.Planned.{SidesPlanned};
 ghost use Rattle.alf_ctb.specs.Filters.{column_ratio, row_ratio};
 ghost use Rattle.alf_ctb.specs.FilterWork.{FilterRooms};
-ghost use Rattle.alf_filter.specs.FilterTables.{TablesAccepted, TablesIn, axes_at};
+ghost use Rattle.alf_filter.specs.FilterTables.{TablesAccepted, TablesIn};
 ghost use Rattle.alf_filter.specs.FilteredCtbs.{is_marked, MarksOn, CtbFiltered, MarkedFiltered};
 
-use alf_boundary::clips::{column_axis, row_axis};
 use alf_classify::AREA;
 use alf_ctb::{filter_ctb, load, walk_line};
 use alf_luma::Rooms;
 use alf_pieces::walks::CtbAxes;
 use alf_sides::sides_at;
-use alf_spec::{Filter, FilterInput, Grid, Layout, Sides};
+use alf_spec::{Filter, FilterInput, Grid};
 use alf_taps::SPREAD;
-
-// The axes through the CTB at address k, with the line at which the filter's pieces end.
-fn axes_at<'a>(filter: Filter, layout: &Layout<'a>, grid: Grid, sides: Sides, k: u32) -> CtbAxes<'a>
-    requires { 0 < grid.columns }
-    ensures { result ≡ axes_at filter layout.now grid sides k }
-{
-    let picture = layout.picture;
-    CtbAxes {
-        columns: column_axis(picture, grid, sides, k % grid.columns),
-        virtual_columns: layout.virtual_columns,
-        rows: row_axis(picture, grid, sides, walk_line(filter), k / grid.columns),
-        virtual_rows: layout.virtual_rows,
-    }
-}
 
 // Whether the CTB at address k is marked.
 fn is_marked(marks: &[u8], k: u32) -> bool
@@ -64,7 +49,7 @@ fn filter_address(
     let own_sides = sides_at(sides, k);
     let mut filters: [i16; 600] = [0; 600];
     load(filter, input, k as usize, &mut filters);
-    let axes = axes_at(filter, &input.layout, grid, own_sides, k);
+    let axes = CtbAxes::through(&input.layout, grid, own_sides, walk_line(filter), k);
     filter_ctb(
         filter, input, grid, own_sides, &axes, &filters, orders, rooms, output,
     );

@@ -47,7 +47,7 @@ filter_ctb-requires c =
     let picture = accepted.planes.picture in
     let begins = ctb_in_picture picture.grid c.args.k c.requires.1 in
     let sides = c.sides_at-own_sides.result in
-    rw (c.axes_at-axes.ensures, layout) (
+    rw (c.through-axes.ensures, c.walk_line.ensures, layout) (
       accepted.planes,
       c.load.ensures.0,
       c.requires.5,
@@ -68,7 +68,7 @@ returns c =
     let ctb : Ctb = record { column = k % g.columns; row = k / g.columns } in
     let picture = c.requires.0.planes.picture in
     let on = sym c.is_marked.ensures ∙ c.if-not-is_marked.false in
-    let done = rw (c.axes_at-axes.ensures, layout) at c.filter_ctb.ensures in (
+    let done = rw (c.through-axes.ensures, c.walk_line.ensures, layout) at c.filter_ctb.ensures in (
       (λ i of planned.
           let ok = layout-accepted f i of.accepted in
           let same = same-picture of in
