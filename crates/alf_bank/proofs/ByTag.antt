@@ -3,12 +3,12 @@ use mathlib.Core.Path.{◌≡◌, refl}
 use mathlib.Core.Logic.{◌≢◌}
 use mathlib.Core.Bool.{Bool, true, false, ◌&&◌}
 use mathlib.Core.List.{List}
-use Prim.Native.Nat.{ℕ, ◌+◌, ◌*◌}
+use Prim.Native.Nat.{ℕ}
 use borrow.Author.Tests.{eq-eqb, ne_eqb}
 use lib.Dec.{ltb, eqb}
 use lib.ListN.{length, get_or}
 use Rattle.alf_bank.specs.declared.FilterId.{FilterId}
-use Rattle.alf_bank.specs.Filters.{shape_of, leads_of, id_valid, order_of, start_of}
+use Rattle.alf_bank.specs.Filters.{shape_of, leads_of, id_valid}
 use Rattle.alf_bank.specs.Reading.{id_of}
 
 -- there are as many leading numbers as the shape says

@@ -135,6 +135,6 @@ read_bank file = filled (replicate 6016 (pos 0)) (fields (drop 4 file) 0)
 
 -- ---- the reader's answer
 
--- its number, 0 where it accepts (`number_of` of the reader's Result; the depth that it returns is `answer_of`); a bank of wrong length is judged "before any field"
+-- its number (`number_of` of the reader's Result), 0 where it accepts; a bank of wrong length is judged "before any field"
 unfoldable pub read_fault : List ℕ → ℕ → ℕ
 read_fault file bank_length = unless (eqb bank_length 6016) 5 (fields_fault (fields file 0))

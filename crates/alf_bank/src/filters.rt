@@ -23,8 +23,9 @@ pub fn shape_of(tag: u8) -> FilterShape
 }
 
 // How many bytes a filter's value has: a coefficient takes one, a clip two.
+#[tactic(auto, using(crate::proofs::FieldFaults::size_small))]
 pub fn size_of(tag: u8) -> usize
-    ensures { (result ≡ size_of (shape_of tag)) × (result ≤ 39) }
+    ensures { (result ≡ size_of (shape_of tag)) × (result ≤ 38) }
 {
     let shape = shape_of(tag);
     shape.leads + shape.coeffs + 2 * shape.clips

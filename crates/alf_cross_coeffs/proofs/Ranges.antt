@@ -1,8 +1,8 @@
 -- A test of the numbers below n, as a chain over `0..n` makes it. Assumes nothing.
 use mathlib.Core.Path.{◌≡◌, refl}
 use mathlib.Core.Bool.{Bool, true}
-use Prim.Native.Nat.{ℕ, zero, suc, ◌+◌, ◌<◌, suc-le-suc}
-use native.Mathlib.Nat.{add-zero, zero-add, zero-lt-suc, le_of_suc-le-suc}
+use Prim.Native.Nat.{ℕ, zero, suc, ◌+◌, ◌<◌}
+use native.Mathlib.Nat.{add-zero, zero-add}
 use native.Mathlib.Omega.{arith}
 use Rattle.std.specs.List.{range_with_len, list_all}
 use Rattle.alf_spec.specs.Lists.{all_below}

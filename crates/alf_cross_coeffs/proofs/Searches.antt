@@ -75,8 +75,9 @@ module _ (bank : List ℤ) where
       by_test : (t : Bool) → ltb (next_offender bank k) 64 ≡ t → (k < o.next) × (o.next ≤ 64)
       by_test true q =
           let below = ltb-true (next_offender bank k) 64 q in
-          let found : Some (record { filter = cross_filter_at (next_offender bank k); next = suc (next_offender bank k) }) ≡ Some o = rw q at e in
-          let same : record { filter = cross_filter_at (next_offender bank k); next = suc (next_offender bank k) } ≡ o = cc in
+          let here : Offender = record { filter = cross_filter_at (next_offender bank k); next = suc (next_offender bank k) } in
+          let found : Some here ≡ Some o = rw q at e in
+          let same : here ≡ o = cc in
           let next : suc (next_offender bank k) ≡ o.next = ap (λ (o : Offender). o.next) same in
           (omega (arith, search_forward (64 - k) k), omega arith)
       by_test false q = let none : ◌≡◌ {A = Option Offender} None (Some o) = rw q at e in absurd (cc)

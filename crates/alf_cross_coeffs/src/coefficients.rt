@@ -7,8 +7,5 @@ ghost use Rattle.alf_spec.specs.Faults.{cross_coeff_valid};
 pub fn cross_coeff_valid(coefficient: i16) -> bool
     ensures { result ≡ cross_coeff_valid coefficient }
 {
-    matches!(
-        coefficient.unsigned_abs(),
-        0 | 1 | 2 | 4 | 8 | 16 | 32 | 64
-    )
+    matches!(coefficient.unsigned_abs(), 0 | 1 | 2 | 4 | 8 | 16 | 32 | 64)
 }

@@ -1,19 +1,16 @@
 -- How far a field reaches, and what the tests of its clips and bytes say by what the code has found. Assumes nothing.
-use mathlib.Core.Path.{◌≡◌, sym, ◌∙◌}
-use mathlib.Core.Bool.{Bool, true, false, ◌&&◌, not, ◌||◌}
+use mathlib.Core.Path.{◌≡◌}
+use mathlib.Core.Bool.{Bool, true, false}
 use mathlib.Core.List.{List}
-use Prim.Native.Nat.{ℕ, ◌+◌, ◌*◌, ◌<◌, ◌≤◌}
+use Prim.Native.Nat.{ℕ, ◌+◌, ◌*◌, ◌≤◌}
 use native.Mathlib.Omega.{arith}
-use borrow.Author.Tests.{le-leb, lt-leb, not-true}
-use lib.Dec.{eqb, leb}
+use lib.Dec.{eqb}
 use lib.ListN.{length, get_or}
 use Rattle.alf_spec.specs.Lists.{all_below}
-use Rattle.alf_spec.proofs.Faults.{took}
-use Rattle.alf_bank.specs.declared.FilterId.{FilterId}
 use Rattle.alf_bank.specs.declared.FilterShape.{FilterShape}
-use Rattle.alf_bank.specs.Filters.{shape_of, id_valid}
-use Rattle.alf_bank.specs.Reading.{length_of, id_of, clip_at, whole, listed, is_depth, clip_fits, clips_valid, byte_zero, zero_field}
-use Rattle.alf_bank.proofs.FieldFaults.{size_small, whole_reach, filter_length_lem}
+use Rattle.alf_bank.specs.Filters.{shape_of}
+use Rattle.alf_bank.specs.Reading.{whole, listed, is_depth, clip_fits, clips_valid, byte_zero, zero_field}
+use Rattle.alf_bank.proofs.FieldFaults.{size_small, whole_reach, filter_length_lem, has_depth}
 use Rattle.alf_op_bank_read.specs.Fields.{Reaches}
 
 -- ---- how far a field reaches
@@ -28,6 +25,9 @@ module _ (f : List ℕ) where
   -- every filter has more bytes than the longest leading numbers
   pub has_leads : Reaches f → 6 ≤ length f
   has_leads h = let p = size_small (get_or f 0 0) in omega arith
+
+-- what a search tries to know of how far a field reaches
+pub ruleset reaches = (has_head, has_depth, filter_reaches, has_leads)
 
 -- ---- the tests of every clip and of every byte, by the numbers that the code has
 

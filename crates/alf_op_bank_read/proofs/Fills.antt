@@ -3,18 +3,17 @@ use mathlib.Core.Path.{◌≡◌, sym, ◌∙◌, ap}
 use mathlib.Core.List.{List}
 use Prim.Native.Nat.{ℕ, ◌+◌, ◌-◌, ◌<◌, ◌≤◌}
 use native.Mathlib.Omega.{arith}
-use borrow.Author.Tests.{lt-ltb, le-ltb, leb-true}
-use lib.IntN.{ℤ, pos, negsuc, ◌-ℤ◌}
+use borrow.Author.Tests.{leb-true}
+use lib.IntN.{ℤ, pos}
 use lib.ListN.{length, get_or, drop}
 use Rattle.alf_spec.specs.declared.Fault.{Fault}
 use Rattle.alf_spec.proofs.Tests.{all_at}
 use Rattle.alf_spec.proofs.Answers.{numbered}
 use Rattle.alf_lists.specs.Overwrite.{overwrite}
 use Rattle.alf_lists.proofs.Overwritten.{overwrite-length}
-use Rattle.alf_bank.specs.declared.FilterId.{FilterId}
 use Rattle.alf_bank.specs.declared.FilterShape.{FilterShape}
 use Rattle.alf_bank.specs.Filters.{shape_of, count_of, start_of}
-use Rattle.alf_bank.specs.Reading.{tag_of, id_of, signed_byte, coeff_at, clip_at, field_numbers, clip_fits, clips_valid, fields, filters_fault}
+use Rattle.alf_bank.specs.Reading.{tag_of, id_of, coeff_at, clip_at, field_numbers, clip_fits, clips_valid, fields, filters_fault}
 use Rattle.alf_bank.specs.Reading.{filled}
 use Rattle.alf_bank.proofs.DecodedFields.{kind_of}
 use Rattle.alf_bank.proofs.FileOrder.{start_fits}
@@ -24,7 +23,7 @@ use Rattle.alf_op_bank_read.specs.declared.Step.{Step}
 use Rattle.std.specs.Prelude.{Option, Some, None, Ok, Err}
 use Rattle.alf_op_bank_read.specs.Fields.{Storable, Seen}
 use Rattle.alf_op_bank_read.proofs.Steps.{at_field, at_end_lem, seen_as, loop_fault, loop_good}
-use Rattle.alf_op_bank_read.proofs.FieldTests.{filter_reaches, has_leads}
+use Rattle.alf_op_bank_read.proofs.FieldTests.{filter_reaches}
 
 -- ---- the numbers of a field
 

@@ -1,19 +1,15 @@
 -- What is known of a file that is accepted, and the bank that it is stored in. Assumes nothing.
-use mathlib.Core.Path.{◌≡◌, sym, ◌∙◌, ap}
-use mathlib.Core.Bool.{Bool, true, cond}
+use mathlib.Core.Path.{◌≡◌, ◌∙◌}
 use mathlib.Core.List.{List}
-use Prim.Native.Nat.{ℕ, ◌<◌, ◌≤◌, ◌^◌}
+use Prim.Native.Nat.{ℕ, ◌≤◌, ◌^◌}
 use native.Mathlib.Omega.{arith}
-use borrow.Author.Tests.{lt-ltb, eqb-true, le-leb}
+use borrow.Author.Tests.{eqb-true}
 use lib.Dec.{eqb}
 use lib.Pow.{pow_mono}
 use lib.IntN.{ℤ, pos}
-use lib.ListN.{length, get_or, drop, replicate, length-replicate, get_or-replicate}
-use lib.Seq.{ext_get_or}
+use lib.ListN.{length, get_or, drop, replicate}
 use Rattle.alf_spec.specs.Faults.{unless}
 use Rattle.alf_spec.proofs.Accepted.{passed}
-use Rattle.alf_lists.specs.Filled.{Filled, same}
-use Rattle.alf_lists.specs.Regions.{between}
 use Rattle.alf_bank.specs.Reading.{length_of, fields, filters_fault, fields_fault, read_depth, filled, read_bank, read_fault}
 use Rattle.alf_bank.proofs.AcceptedFiles.{read_faults}
 use Rattle.alf_bank.proofs.FieldFaults.{depth_small}

@@ -6,7 +6,6 @@ use mathlib.Core.Bool.{true, false}
 use mathlib.Core.List.{List, [], ◌∷◌}
 use Prim.Native.Nat.{ℕ, suc, ◌+◌, ◌-◌, ◌<◌, ◌≤◌, ◌^◌}
 use native.Mathlib.Omega.{arith}
-use native.Mathlib.Numerals.{add-one}
 use borrow.Author.Tests.{eq-eqb, ne_eqb}
 use Rattle.std.specs.Prelude.{Option, Some, None, Ok, Err}
 use lib.ListN.{length, get_or, drop, length-drop, take, drop_of_length-le}
@@ -15,7 +14,6 @@ use Rattle.alf_spec.specs.declared.Fault.{Fault}
 use Rattle.alf_spec.specs.Answers.{fault_number}
 use Rattle.alf_spec.specs.Faults.{unless}
 use Rattle.alf_spec.proofs.Answers.{numbered}
-use Rattle.alf_bank.specs.declared.FilterId.{FilterId}
 use Rattle.alf_bank.specs.Filters.{order_of}
 use Rattle.alf_bank.specs.Reading.{length_of, id_of, field_fault, fields, first_of, filters_fault, fields_fault, read_fault}
 use Rattle.alf_bank.proofs.FieldFaults.{whole_reach, Good, good_of, depth_small}

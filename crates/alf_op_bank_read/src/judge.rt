@@ -17,7 +17,8 @@ fn is_depth(field: &[u8]) -> bool
     field[0] == 1
 }
 
-#[tactic(auto, unfolding(alf_bank::specs::Reading::field_fault, alf_bank::specs::Reading::proper, alf_bank::specs::Reading::in_place, alf_spec::specs::Faults::unless), using(crate::proofs::FieldTests::has_head, crate::proofs::FieldTests::has_leads, crate::proofs::FieldTests::filter_reaches, alf_bank::proofs::FieldFaults::has_depth))]
+// The bit depth that a first field says, or its lowest fault. The field is not empty. No clip is judged before the bit depth is known.
+#[tactic(auto, unfolding(alf_bank::specs::Reading::field_fault, alf_bank::specs::Reading::proper, alf_bank::specs::Reading::in_place, alf_spec::specs::Faults::unless), using(crate::proofs::FieldTests::reaches))]
 pub fn first_depth(field: &[u8]) -> Result<u8, Fault>
     ensures fault { number_of result ≡ field_fault true 0 0 field.now }
     ensures depth { IfOk result (λ d. (d ≡ get_or field.now 3 0) × (d ≤ 12) × (4 ≤ length field.now)) }
@@ -51,7 +52,7 @@ fn in_place(field: &[u8], from: usize) -> bool
 }
 
 // The lowest fault of a field after the first. Clips go up to the limit; filters come from place `from` of file order on.
-#[tactic(auto, unfolding(alf_bank::specs::Reading::field_fault, alf_bank::specs::Reading::proper, alf_bank::specs::Reading::in_place, alf_spec::specs::Faults::unless), using(crate::proofs::FieldTests::has_head, crate::proofs::FieldTests::has_leads, crate::proofs::FieldTests::filter_reaches, alf_bank::proofs::FieldFaults::has_depth))]
+#[tactic(auto, unfolding(alf_bank::specs::Reading::field_fault, alf_bank::specs::Reading::proper, alf_bank::specs::Reading::in_place, alf_spec::specs::Faults::unless), using(crate::proofs::FieldTests::reaches))]
 pub fn filter_fault(field: &[u8], limit: usize, from: usize) -> Result<(), Fault>
     ensures { number_of result ≡ field_fault false limit from field.now }
 {

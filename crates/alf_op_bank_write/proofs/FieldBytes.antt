@@ -1,14 +1,14 @@
 -- The bytes of a filter's field one by one, as the code makes them. Assumes nothing.
 use mathlib.Core.Path.{◌≡◌, refl, sym, ◌∙◌, ap}
 use mathlib.Core.Logic.{◌≢◌}
-use mathlib.Core.Bool.{Bool, true, false, cond, true≢false}
+use mathlib.Core.Bool.{Bool, true, false, cond}
 use mathlib.Core.List.{List, [], append-nil}
-use Prim.Native.Nat.{ℕ, suc, ◌+◌, ◌-◌, ◌*◌, ◌/◌, ◌%◌, ◌<◌, ◌≤◌, ◌^◌}
+use Prim.Native.Nat.{ℕ, ◌+◌, ◌-◌, ◌*◌, ◌/◌, ◌%◌, ◌<◌, ◌≤◌, ◌^◌}
 use native.Mathlib.Omega.{arith}
-use borrow.Author.Tests.{le-ltb, eq-eqb, ltb-true, eqb-true, eqb-false, ne_eqb, leb-true}
-use lib.Dec.{eqb, leb, T}
-use lib.IntN.{ℤ, pos, negsuc, nat_abs, ◌+ℤ◌, pos-ne-negsuc}
-use lib.Signed.{lt_z, non_neg, mag}
+use borrow.Author.Tests.{eq-eqb, eqb-true, eqb-false, leb-true}
+use lib.Dec.{eqb, leb}
+use lib.IntN.{ℤ, pos, negsuc, nat_abs}
+use lib.Signed.{mag}
 use lib.ListN.{length, get_or}
 use mir.Syntax.{w8, w16}
 use mir.Val.{SFits, to_z, of_z}
@@ -24,7 +24,7 @@ use Rattle.alf_bank.specs.Writing.{byte_of, filter_number, zero_at, all_zero, fi
 use Rattle.alf_bank.proofs.FieldRows.{row_of, row-length, row_head, row_byte, row-high, row_low}
 use Rattle.alf_bank.proofs.FieldRows.{field_head, head_length, coeff_bytes, clip_words, field_row}
 use Rattle.alf_bank.proofs.WrittenFiles.{no_magnitude}
-use Rattle.alf_op_bank_write.specs.FieldBytes.{head_of, field_bytes, Writable}
+use Rattle.alf_op_bank_write.specs.FieldBytes.{head_of, field_bytes}
 
 -- ---- the leading numbers, byte k of the head
 

@@ -1,19 +1,16 @@
 -- The fields that the writer writes one after the other, and the room that they take. Assumes nothing.
 use mathlib.Core.Path.{◌≡◌, refl, sym, ◌∙◌, ap}
-use mathlib.Core.Bool.{Bool, true, false, not}
+use mathlib.Core.Bool.{Bool, true, false}
 use mathlib.Core.List.{List, [], ◌∷◌, ◌++◌, append_assoc, append-nil}
 use Prim.Native.Nat.{ℕ, zero, suc, ◌+◌, ◌-◌, ◌*◌, ◌<◌, ◌≤◌, ◌^◌, min}
 use native.Mathlib.Omega.{arith}
-use native.Mathlib.Nat.{zero-add, add-zero, le_antisymm}
+use native.Mathlib.Nat.{zero-add, add-zero}
 use native.Mathlib.Numerals.{add-one}
 use borrow.Author.Tests.{ltb-true, ltb-false}
 use lib.Dec.{ltb}
 use lib.IntN.{ℤ}
-use lib.ListN.{length, length-append, set}
+use lib.ListN.{length, length-append}
 use lib.Pow.{pow_mono}
-use lib.Seq.{sets-eq}
-use Rattle.alf_spec.specs.Faults.{depth_valid}
-use Rattle.alf_spec.proofs.Faults.{took}
 use Rattle.alf_spec.proofs.Tests.{within_bounds}
 use Rattle.alf_lists.specs.Overwrite.{overwrite}
 use Rattle.alf_lists.proofs.Overwritten.{overwrite-length, overwrite_none, overwrite_join}

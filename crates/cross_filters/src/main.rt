@@ -7,8 +7,7 @@ ghost use Rattle.std.specs.Prelude.{◌≡◌, ◌≤◌, ◌<◌, ◌↔◌, le
 ghost use Rattle.std.specs.Io.KnownBytes.{Consumes, IsAtEnd};
 
 use alf::{fault_number, next_offender, read_bank};
-use alf_bank::BankRead;
-use alf_cross_coeffs::{CrossFilter, Offender};
+use alf_cross_coeffs::CrossFilter;
 use alf_print::{print, print_labelled, print_number};
 use alf_spec::Fault;
 use std::io;
@@ -17,30 +16,24 @@ use std::process::ExitCode;
 
 // A line of three numbers.
 fn print_filter(rt: &impl Print, filter: CrossFilter) -> io::Result<()> {
-    print_number(rt, filter.aps as u32)?;
-    print_labelled(rt, b" ", filter.component as u32)?;
-    print_labelled(rt, b" ", filter.filter as u32)?;
+    print_number(rt, u32::from(filter.aps))?;
+    print_labelled(rt, b" ", u32::from(filter.component))?;
+    print_labelled(rt, b" ", u32::from(filter.filter))?;
     print(rt, b"\n")
 }
 
 // A line for each filter that the search finds, one after the other.
 fn print_offenders(rt: &impl Print, bank: &[i16]) -> io::Result<()> {
     let mut at = 0;
-    loop {
-        match next_offender(bank, at) {
-            Offender::Found { filter, next } => {
-                print_filter(rt, filter)?;
-                at = next;
-            }
-            Offender::Nothing => {
-                return Ok(());
-            }
-        }
+    while let Some(offender) = next_offender(bank, at) {
+        print_filter(rt, offender.filter)?;
+        at = offender.next;
     }
+    Ok(())
 }
 
 fn print_refused(rt: &impl Print, fault: Fault) -> io::Result<()> {
-    print_labelled(rt, b"refused ", fault_number(fault) as u32)?;
+    print_labelled(rt, b"refused ", u32::from(fault_number(fault)))?;
     print(rt, b"\n")
 }
 
@@ -48,8 +41,8 @@ fn print_refused(rt: &impl Print, fault: Fault) -> io::Result<()> {
 fn print_answer(rt: &impl Print, file: &[u8]) -> io::Result<()> {
     let mut bank = [0i16; 6016];
     match read_bank(file, &mut bank) {
-        BankRead::Read(_) => print_offenders(rt, &bank),
-        BankRead::Rejected(fault) => print_refused(rt, fault),
+        Ok(_) => print_offenders(rt, &bank),
+        Err(fault) => print_refused(rt, fault),
     }
 }
 

@@ -1,9 +1,8 @@
 -- A file that is rejected leaves the bank, and one that is accepted is stored whole. Assumes nothing.
-use Rattle.std.proofs.Common.{rules, arith, ◌≡◌, ◌∙◌, sym, ap, ℕ, length, replicate, pos}
+use Rattle.std.proofs.Common.{◌≡◌, ◌∙◌, sym, ap, length, replicate, pos}
 use Rattle.std.proofs.Math.Option.{some, none}
 use Rattle.alf_spec.proofs.Answers.{kept_new}
-use Rattle.alf_bank.specs.Reading.{read_fault}
-use Rattle.alf_op_bank_read.proofs.Readings.{read-size, read_there, read-depth, read-limit, read-filters, read_stored}
+use Rattle.alf_op_bank_read.proofs.Readings.{read-size, read_there, read-limit, read-filters, read_stored}
 use Rattle.alf_op_bank_read.proofs.read_bank.Goals as goal
 
 pub fill_bank-requires : goal.fill_bank-requires
@@ -17,6 +16,8 @@ pub returns : goal.returns
 returns c =
     let none_is = c.in_ok-depth.ensures.fault in
     let cleared : c.fill.new.self ≡ replicate (length c.args.bank.now) (pos 0) =
-        c.fill.ensures.after (λ y q. q) in
-    (none_is, kept_new none_is none (ap some c.in_ok-depth.ensures.depth.0),
-    kept_new none_is _ (read_stored _ _ (sym none_is) (rw cleared at c.fill_bank.ensures)))
+    c.fill.ensures.after (λ y q. q) in (
+      none_is,
+      kept_new none_is none (ap some c.in_ok-depth.ensures.depth.0),
+      kept_new none_is _ (read_stored _ _ (sym none_is) (rw cleared at c.fill_bank.ensures)),
+    )

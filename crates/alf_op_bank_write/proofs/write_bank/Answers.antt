@@ -1,5 +1,5 @@
 -- A bank that is refused leaves the buffer, and one that is accepted is written whole. Assumes nothing.
-use Rattle.std.proofs.Common.{arith, refl, sym, ap, ℕ}
+use Rattle.std.proofs.Common.{arith, refl, sym, ap}
 use Rattle.std.proofs.Math.Option.{some, none}
 use Rattle.alf_spec.proofs.Answers.{kept_new}
 use Rattle.alf_op_bank_write.proofs.Files.{write_room, write_ready, write_length, write_fits, mid_long, write_file}
@@ -19,6 +19,8 @@ overflow_cast-result c = record { fits = write_fits _ _ _ (sym c.in_ok-judge_ban
 pub returns : goal.returns
 returns c =
     let none_is = c.in_ok-judge_bank.ensures in
-    let wrote = c.write_filters-length.ensures in
-    (none_is, kept_new none_is none (ap some (write_length _ _ _ (sym none_is) wrote.0)),
-    kept_new none_is _ (write_file _ _ _ (sym none_is) _ refl c.write_depth.ensures wrote.1))
+    let wrote = c.write_filters-length.ensures in (
+      none_is,
+      kept_new none_is none (ap some (write_length _ _ _ (sym none_is) wrote.0)),
+      kept_new none_is _ (write_file _ _ _ (sym none_is) _ refl c.write_depth.ensures wrote.1),
+    )

@@ -2,8 +2,8 @@
 use Rattle.std.proofs.Common.{◌≤◌, ◌-◌}
 use Rattle.cross_filters.proofs.print_offenders.Given as goal
 
-abbrev pub invariant-loop-filter : goal.invariant-loop-filter
-invariant-loop-filter g l = l.at ≤ 64
+abbrev pub invariant-loop-offender : goal.invariant-loop-offender
+invariant-loop-offender g l = l.at ≤ 64
 
-abbrev pub decreases-loop-filter : goal.decreases-loop-filter
-decreases-loop-filter g l = 64 - l.at
+abbrev pub decreases-loop-offender : goal.decreases-loop-offender
+decreases-loop-offender g l = 64 - l.at

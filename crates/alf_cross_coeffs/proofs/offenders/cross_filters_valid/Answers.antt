@@ -1,7 +1,6 @@
 -- The search from the first place finds nothing exactly where every filter passes. Assumes nothing.
-use Rattle.std.proofs.Common.{rules, ◌≡◌, ◌∙◌, ap, Bool}
+use Rattle.std.proofs.Common.{rules, ◌≡◌, ◌∙◌, ap}
 use Rattle.std.specs.Option.{is_none}
-use Rattle.alf_cross_coeffs.specs.Offenders.{next_offender, found_at}
 use Rattle.alf_cross_coeffs.proofs.Searches.{search_none}
 use Rattle.alf_cross_coeffs.proofs.offenders.cross_filters_valid.Goals as goal
 

@@ -1,6 +1,5 @@
 -- The chain tests the seven coefficients. Assumes nothing.
-use Rattle.std.proofs.Common.{rules, tests, refl, ◌≡◌, ◌∙◌, pos, get_or, ◌+◌, ◌*◌, ◌/◌, ◌%◌, Bool, List, ℤ, ℕ}
-use Rattle.std.specs.List.{range_with_len, list_all}
+use Rattle.std.proofs.Common.{rules, tests, refl, ◌∙◌, pos, get_or, ◌+◌, ◌*◌, ◌/◌, ◌%◌, Bool, List, ℤ, ℕ}
 use Rattle.std.proofs.lemmas.Iterator.{YieldsList-from_range}
 use Rattle.std.proofs.lemmas.Iterator.Search.{all_from_yields_List}
 use Rattle.alf_spec.specs.Faults.{cross_coeff_valid, cross_filter_valid}

@@ -1,5 +1,4 @@
 -- The numbers so far stand in the bank.
-use Rattle.std.proofs.Common.{◌≡◌, length}
 use Rattle.alf_lists.proofs.Pasted.{Pasted}
 use Rattle.alf_bank.specs.Reading.{field_numbers}
 use Rattle.alf_op_bank_read.proofs.fill.fill_field.Given as goal

@@ -11,6 +11,7 @@ returns-then-all_zero c =
 pub returns : goal.returns
 returns c =
     let id = c.filter_at-id.ensures in
-    let zero = c.all_zero.ensures in
-    (written_at _ _ _ c.args.file.now id zero c.if-all_zero.false c.size_of.ensures.0,
-    written_file _ _ _ c.args.file.now id zero c.if-all_zero.false c.write_field.ensures)
+    let zero = c.all_zero.ensures in (
+      written_at _ _ _ c.args.file.now id zero c.if-all_zero.false c.size_of.ensures.0,
+      written_file _ _ _ c.args.file.now id zero c.if-all_zero.false c.write_field.ensures,
+    )
