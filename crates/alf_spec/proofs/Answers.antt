@@ -1,13 +1,11 @@
--- What an answer of the judge says of the fault's number, and of what then stands in an output. Assumes nothing.
-use mathlib.Core.Path.{◌≡◌, refl, sym, ◌∙◌, ap, subst}
+-- What a fault's number says of what then stands in an output. Assumes nothing.
+use mathlib.Core.Path.{◌≡◌, refl, sym, ◌∙◌, subst}
 use Prim.Native.Nat.{ℕ, suc, pred}
 use Rattle.alf_spec.specs.declared.Fault.{Fault}
 use Rattle.alf_spec.specs.declared.Fault.TheVariants.{PictureSize, CtbSize, BitDepth, ChromaFormat, Length, VirtualBoundary, Tile}
 use Rattle.alf_spec.specs.declared.Fault.TheVariants.{Slice, Subpicture, Parameter, Filter, Sample, Address, Region, Position}
 use Rattle.alf_spec.specs.declared.Fault.TheVariants.{FieldCutShort, FieldUnlisted, FieldOutOfPlace}
-use Rattle.alf_spec.specs.declared.Answer.{Answer}
-use Rattle.alf_spec.specs.declared.Answer.TheVariants.{Accepted, Rejected}
-use Rattle.alf_spec.specs.Answers.{fault_number, number, kept}
+use Rattle.alf_spec.specs.Answers.{fault_number, kept}
 
 -- no fault has the number 0
 pub numbered : (f : Fault) → fault_number f ≡ suc (pred (fault_number f))
@@ -39,17 +37,3 @@ kept_old f e new {old} = subst (λ (n : ℕ). old ≡ kept n new old) (sym (numb
 -- an input that is accepted leaves what is new
 pub kept_new : {A : Type 0} {n : ℕ} → 0 ≡ n → {out new : A} (old : A) → out ≡ new → out ≡ kept n new old
 kept_new e old w = rw (← e) w
-
--- ---- the judge's answer a, and the fault's number n
-
-module _ (a : Answer) {n : ℕ} (e : number a ≡ n) where
-  pub accepts : a ≡ Accepted → n ≡ 0
-  accepts q = sym e ∙ ap number q
-
-  -- where the judge rejects: the number of its fault, and an output that stays as it was
-  pub stays : {A : Type 0} {f : Fault} → a ≡ Rejected f → (new : A) {old : A} → (fault_number f ≡ n) × (old ≡ kept n new old)
-  stays {f = f} q new = let same : fault_number f ≡ n = sym (ap number q) ∙ e in (same, kept_old f same new)
-
-  -- where it accepts: 0, and an output that is the new one
-  pub written : {A : Type 0} → a ≡ Accepted → {out new : A} (old : A) → out ≡ new → (0 ≡ n) × (out ≡ kept n new old)
-  written q old w = let none = sym (accepts q) in (none, kept_new none old w)

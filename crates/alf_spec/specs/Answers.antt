@@ -1,20 +1,13 @@
--- The operations' answers, and what stands for them: the number of paper 01's table, what the isolation test says, and the causes by
--- number. Assumes nothing.
-use Rattle.std.specs.Prelude.{Bool, true, false, List, [], ◌∷◌, ℕ, zero, suc, Result, Ok, Err}
+-- The operations' answers, and what stands for them: the number of paper 01's table, and the causes by number. Assumes nothing.
+use Rattle.std.specs.Prelude.{List, [], ◌∷◌, ℕ, zero, suc, Result, Ok, Err}
 use Rattle.std.proofs.Math.Option.{Option, some, none}
 use Rattle.alf_spec.specs.declared.Fault.{Fault}
 use Rattle.alf_spec.specs.declared.Fault.TheVariants.{PictureSize, CtbSize, BitDepth, ChromaFormat, Length, VirtualBoundary, Tile}
 use Rattle.alf_spec.specs.declared.Fault.TheVariants.{Slice, Subpicture, Parameter, Filter, Sample, Address, Region, Position}
 use Rattle.alf_spec.specs.declared.Fault.TheVariants.{FieldCutShort, FieldUnlisted, FieldOutOfPlace}
-use Rattle.alf_spec.specs.declared.Answer.{Answer}
-use Rattle.alf_spec.specs.declared.Answer.TheVariants.{Accepted, Rejected}
-use Rattle.alf_spec.specs.declared.Isolation.{Isolation}
-use Rattle.alf_spec.specs.declared.Isolation.TheVariants as isolation
 use Rattle.alf_spec.specs.declared.ClipCause.{ClipCause}
 use Rattle.alf_spec.specs.declared.ClipCause.TheVariants as cause
 use Rattle.alf_spec.specs.declared.SideCauses.{SideCauses}
-use Rattle.alf_spec.specs.declared.ClipCauses.{ClipCauses}
-use Rattle.alf_spec.specs.declared.ClipCauses.TheVariants as causes
 
 -- 01's table, and the cards of 02: the number of each fault
 abbrev pub fault_number : Fault → ℕ
@@ -46,33 +39,6 @@ number_of (Err f) = fault_number f
 abbrev pub answer_of : {A : Type 0} → Result A Fault → Option A
 answer_of (Ok a) = some a
 answer_of (Err f) = none
-
--- accepted work returns 0
-abbrev pub number : Answer → ℕ
-number Accepted = 0
-number (Rejected f) = fault_number f
-
--- the isolation test accepts whether it says isolated or not
-abbrev pub isolation_number : Isolation → ℕ
-isolation_number isolation.Isolated = 0
-isolation_number isolation.NotIsolated = 0
-isolation_number (isolation.Rejected f) = fault_number f
-
--- (01: shut) what the isolation test says where it accepts; where it rejects, the number tells
-abbrev pub says_isolated : Isolation → Bool
-says_isolated isolation.Isolated = true
-says_isolated isolation.NotIsolated = false
-says_isolated (isolation.Rejected f) = false
-
--- the number of the answer about the causes at a luma position
-abbrev pub causes_number : ClipCauses → ℕ
-causes_number (causes.Named c) = 0
-causes_number (causes.Rejected f) = fault_number f
-
--- the causes that it names: none where it rejects
-abbrev pub causes_named : ClipCauses → Option SideCauses
-causes_named (causes.Named c) = some c
-causes_named (causes.Rejected f) = none
 
 -- 02, card 1: "open, line, virtual boundary, tile, slice, subpicture"
 abbrev pub cause_number : ClipCause → ℕ

@@ -4,7 +4,6 @@
 mod inputs;
 
 pub use inputs::{FilterInput, Layout};
-
 use std::fmt;
 
 // A picture's sizes and switches (01: frame). A switch that is true filters across.
@@ -65,21 +64,6 @@ pub enum Filter {
     CrossComponent(u8),
 }
 
-// The answer of the class map and of the three filters.
-#[derive(Clone, Copy)]
-pub enum Answer {
-    Accepted,
-    Rejected(Fault),
-}
-
-// The answer of the isolation test (01: shut, not shut).
-#[derive(Clone, Copy)]
-pub enum Isolation {
-    Isolated,
-    NotIsolated,
-    Rejected(Fault),
-}
-
 // Why filtering stops at a side of a luma sample, or of a CTB (02, card 1: cause), in the order of the numbers 0 to 5. A CTB's side is
 // open, or has one of the last three.
 #[derive(Clone, Copy, PartialEq, Eq)]
@@ -120,13 +104,6 @@ pub struct SideCauses {
     pub bottom: ClipCause,
     pub left: ClipCause,
     pub right: ClipCause,
-}
-
-// The answer of the operation that names them.
-#[derive(Clone, Copy)]
-pub enum ClipCauses {
-    Named(SideCauses),
-    Rejected(Fault),
 }
 
 // A picture's CTB grid: the side of a CTB in luma samples, and how many CTBs there are in a row and in a column.
