@@ -2,7 +2,7 @@
 // the runtime that it prints to first, and answers with the error of the first write that fails.
 #![tactic(auto)]
 
-use alf_spec::{ClipCause, Fault, Isolation};
+use alf_spec::Fault;
 use std::{fmt, io};
 
 // What was asked, and the number of the answer.
@@ -74,51 +74,4 @@ pub fn print_plane(rt: &impl Print, plane: &[u16], columns: usize) -> io::Result
 // A class map, so many blocks a row.
 pub fn print_map(rt: &impl Print, map: &[u8], columns: usize) -> io::Result<()> {
     print_rows(rt, map, columns, |number| ClassNumber(number))
-}
-
-// ---- for the callers that are not moved yet: `print!` says each of these, and the two functions at the top
-
-pub fn print(rt: &impl Print, text: &[u8]) -> io::Result<()> {
-    rt.write_all(text)
-}
-
-pub fn print_number(rt: &impl Print, n: u32) -> io::Result<()> {
-    rt.print(n)
-}
-
-// A number with its sign.
-pub fn print_integer(rt: &impl Print, n: i32) -> io::Result<()> {
-    rt.print(n)
-}
-
-// A text, and a number behind it.
-pub fn print_labelled(rt: &impl Print, text: &[u8], n: u32) -> io::Result<()> {
-    print(rt, text)?;
-    rt.print(n)
-}
-
-// What was asked, and the number of the answer.
-pub fn print_answer(rt: &impl Print, text: &[u8], number: u8) -> io::Result<()> {
-    print(rt, text)?;
-    println!(rt; ": answer {number}")
-}
-
-// What was asked of the isolation test, the number of its answer, and what it says.
-pub fn print_isolation(
-    rt: &impl Print,
-    text: &[u8],
-    number: u8,
-    answer: Isolation,
-) -> io::Result<()> {
-    print(rt, text)?;
-    match answer {
-        Isolation::Isolated => print_isolated(rt, "", number, Ok(true)),
-        Isolation::NotIsolated => print_isolated(rt, "", number, Ok(false)),
-        Isolation::Rejected(fault) => print_isolated(rt, "", number, Err(fault)),
-    }
-}
-
-// A cause by its name.
-pub fn print_cause(rt: &impl Print, cause: ClipCause) -> io::Result<()> {
-    rt.print(cause)
 }

@@ -8,7 +8,6 @@ ghost use Rattle.std.specs.Io.KnownBytes.{Consumes, IsAtEnd};
 
 use alf::{fault_number, next_offender, read_bank};
 use alf_cross_coeffs::CrossFilter;
-use alf_print::{print, print_labelled, print_number};
 use alf_spec::Fault;
 use std::io;
 use std::io::Read;
@@ -16,10 +15,10 @@ use std::process::ExitCode;
 
 // A line of three numbers.
 fn print_filter(rt: &impl Print, filter: CrossFilter) -> io::Result<()> {
-    print_number(rt, u32::from(filter.aps))?;
-    print_labelled(rt, b" ", u32::from(filter.component))?;
-    print_labelled(rt, b" ", u32::from(filter.filter))?;
-    print(rt, b"\n")
+    let aps = filter.aps;
+    let component = filter.component;
+    let number = filter.filter;
+    println!(rt; "{aps} {component} {number}")
 }
 
 // A line for each filter that the search finds, one after the other.
@@ -33,8 +32,8 @@ fn print_offenders(rt: &impl Print, bank: &[i16]) -> io::Result<()> {
 }
 
 fn print_refused(rt: &impl Print, fault: Fault) -> io::Result<()> {
-    print_labelled(rt, b"refused ", u32::from(fault_number(fault)))?;
-    print(rt, b"\n")
+    let number = fault_number(fault);
+    println!(rt; "refused {number}")
 }
 
 // The filters of a bank file, or the number for which it is none.

@@ -1,22 +1,22 @@
 // P9 to P11 on what the filters run: clip positions and their causes, the copy of a piece, and the line rule. CTBs are of 32.
 ghost use Rattle.std.specs.Prelude.{◌≤◌};
 
-use alf_boundary::clips::{CtbAxis, FoundClip, column_axis, find_clip, line_rule, row_axis};
+use alf_boundary::clips::{CtbAxis, column_axis, find_clip, line_rule, row_axis};
 use alf_boundary::sides::sides_of;
 use alf_math::grid::grid;
 use alf_pieces::copies::{copy_piece, extent};
 use alf_pieces::pieces::piece_at;
-use alf_spec::{ClipCause, Ctb, Picture};
+use alf_spec::{Clip, ClipCause, Ctb, Layout, Picture};
 use std::io;
 
-fn show_clip(rt: &impl Print, y: u32, found: FoundClip) -> io::Result<()> {
+fn show_clip(rt: &impl Print, y: u32, found: Option<Clip>) -> io::Result<()> {
     match found {
-        FoundClip::At(clip) => {
+        Some(clip) => {
             let position = clip.position;
             let cause = clip.cause;
             print!(rt; "{y} -> {position}, {cause}")
         }
-        FoundClip::Nowhere => print!(rt; "{y} -> none"),
+        None => print!(rt; "{y} -> none"),
     }
 }
 
@@ -25,8 +25,6 @@ fn show_clip(rt: &impl Print, y: u32, found: FoundClip) -> io::Result<()> {
 fn show_beside(rt: &impl Print, after: bool, line: u32, y: u32) -> io::Result<()>
     requires { (line ≤ 4) × (y ≤ 31) }
 {
-    let boundaries = [0u16; 1];
-    let none = 0;
     let axis = CtbAxis {
         size: 64,
         ctb: 32,
@@ -35,7 +33,7 @@ fn show_beside(rt: &impl Print, after: bool, line: u32, y: u32) -> io::Result<()
         after: ClipCause::Open,
         place: 0,
     };
-    show_clip(rt, y, find_clip(axis, &boundaries[..none], after, y))
+    show_clip(rt, y, find_clip(axis, &[], after, y))
 }
 
 // The clip position below row y.
@@ -81,34 +79,20 @@ pub fn show_corner(rt: &impl Print) -> io::Result<()> {
         across_tiles: true,
         across_slices: false,
     };
-    let boundaries = [0u16; 1];
-    let none = 0;
-    let tiles = [0u8; 2];
-    let slices = [0u8, 1, 1, 1];
-    let subpictures = [0u8; 4];
-    let across = [1u8; 64];
-    let grid = grid(picture);
-    let ctb = Ctb { column: 1, row: 1 };
-    let sides = sides_of(
+    let layout = Layout {
         picture,
-        grid,
-        &tiles,
-        &tiles,
-        &slices,
-        &subpictures,
-        &across,
-        ctb,
-    );
-    let columns = piece_at(
-        column_axis(picture, grid, sides, 1),
-        &boundaries[..none],
-        32,
-    );
-    let rows = piece_at(
-        row_axis(picture, grid, sides, 4, 1),
-        &boundaries[..none],
-        32,
-    );
+        virtual_columns: &[],
+        virtual_rows: &[],
+        tile_columns: &[0; 2],
+        tile_rows: &[0; 2],
+        slice_map: &[0, 1, 1, 1],
+        subpic_map: &[0; 4],
+        subpic_across: &[1; 64],
+    };
+    let grid = grid(picture);
+    let sides = sides_of(&layout, grid, Ctb { column: 1, row: 1 });
+    let columns = piece_at(column_axis(picture, grid, sides, 1), &[], 32);
+    let rows = piece_at(row_axis(picture, grid, sides, 4, 1), &[], 32);
     let mut plane = [0u16; 1600];
     number_samples(&mut plane);
     let mut copy = [0u16; 196];
