@@ -12,6 +12,7 @@ pub struct BlockAxis<'a> {
     pub size: u32,
     pub ctb: u32,
     pub boundaries: &'a [u16],
+    ghost ctbs: { 0 < ctb },
 }
 
 // The two ends of a block along an axis: whether no step across is open, and whether the CTB ends there too.
@@ -25,6 +26,7 @@ pub struct BlockEnds {
 
 // The columns of a picture with CTBs of this size. They and the rows differ in the fields that are read, so these are two functions.
 pub fn column_axis<'a>(layout: &Layout<'a>, ctb: u32) -> BlockAxis<'a>
+    requires { 0 < ctb }
     ensures { (result.size ≡ layout.now.picture.width) × (result.ctb ≡ ctb) × (result.boundaries.now ≡ layout.now.virtual_columns) }
 {
     BlockAxis {
@@ -36,6 +38,7 @@ pub fn column_axis<'a>(layout: &Layout<'a>, ctb: u32) -> BlockAxis<'a>
 
 // Its rows.
 pub fn row_axis<'a>(layout: &Layout<'a>, ctb: u32) -> BlockAxis<'a>
+    requires { 0 < ctb }
     ensures { (result.size ≡ layout.now.picture.height) × (result.ctb ≡ ctb) × (result.boundaries.now ≡ layout.now.virtual_rows) }
 {
     BlockAxis {
@@ -55,7 +58,6 @@ impl<'a> BlockAxis<'a> {
 
     // Whether a step across the boundary b is open.
     fn step_is_open(&self, disabled: bool, b: u32) -> bool
-        requires { 0 < self.now.ctb }
         ensures { result ≡ step_open self.now.size self.now.ctb self.now.boundaries.now disabled b }
     {
         ((0 < b) & (b < self.size)) & (!self.is_listed(b) & ((b % self.ctb != 0) | !disabled))
@@ -64,7 +66,7 @@ impl<'a> BlockAxis<'a> {
     // The ends of the block at place x, from whether filtering is disabled before and after its CTB. At a virtual boundary and at the
     // picture's rim no step is open either.
     pub fn ends(&self, disabled_before: bool, disabled_after: bool, x: u32) -> BlockEnds
-        requires { (0 < self.now.ctb) × (x ≤ 512) }
+        requires { x ≤ 512 }
         ensures { result ≡ block_ends self.now.size self.now.ctb self.now.boundaries.now disabled_before disabled_after x }
     {
         let before = 8 * x;

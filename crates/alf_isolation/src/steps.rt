@@ -21,7 +21,7 @@ pub struct BlockSides {
 // The sides of a row of blocks, from those of its CTB: top and bottom are its own, and the corners count at the CTB's top and bottom.
 #[tactic(auto, unfolding(crate::specs::Steps::row_sides))]
 pub fn row_sides(rows: &BlockAxis, sides: Sides, y: u32) -> BlockSides
-    requires { (0 < rows.now.ctb) × (y ≤ 512) }
+    requires { y ≤ 512 }
     ensures { result ≡ row_sides rows.now.size rows.now.ctb rows.now.boundaries.now sides y }
 {
     let ends = rows.ends(disables(sides.top), disables(sides.bottom), y);
@@ -38,7 +38,7 @@ pub fn row_sides(rows: &BlockAxis, sides: Sides, y: u32) -> BlockSides
 // The sides of a block, from those of its row: left and right are its own, and the corners count at the CTB's left and right.
 #[tactic(auto, unfolding(crate::specs::Steps::block_sides))]
 pub fn block_sides(columns: &BlockAxis, sides: BlockSides, x: u32) -> BlockSides
-    requires { (0 < columns.now.ctb) × (x ≤ 512) }
+    requires { x ≤ 512 }
     ensures { result ≡ block_sides columns.now.size columns.now.ctb columns.now.boundaries.now sides x }
 {
     let ends = columns.ends(sides.left, sides.right, x);

@@ -27,13 +27,11 @@ overflow_mul-row c =
 
 pub row_sides-requires : goal.row_sides-requires
 row_sides-requires c =
-    let rows = c.row_axis-rows.ensures in (
-      rw rows.1 (omega (arith, c.requires.0.ctb_low)),
-      omega (
-        arith,
-        c.requires.0.height_high,
-        row_below c.requires.0 _ _ c.requires.2 (rw (rows.0, rows.1) at c.blocks_in-j-end.ensures) c.loop-j-test.true,
-      ),
+    let rows = c.row_axis-rows.ensures in
+    omega (
+      arith,
+      c.requires.0.height_high,
+      row_below c.requires.0 _ _ c.requires.2 (rw (rows.0, rows.1) at c.blocks_in-j-end.ensures) c.loop-j-test.true,
     )
 
 pub run_passes-requires : goal.run_passes-requires
