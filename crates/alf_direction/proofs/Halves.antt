@@ -1,14 +1,7 @@
 -- A product of two 32-bit numbers from 16-bit halves. Assumes nothing.
 use mathlib.Core.Path.{◌≡◌, refl, sym, ◌∙◌}
-use Prim.Native.Nat.{ℕ, ◌+◌, ◌*◌, ◌/◌, ◌%◌, ◌^◌, ◌≤◌, ◌<◌}
-use native.Mathlib.Nat.{add_assoc, add_comm, add_left_comm, mul_assoc, mul_comm, mul_left_comm, mul-add, add-mul, mul-le-mul, div-add-mod'}
-use native.Mathlib.Omega.{arith}
-
--- two factors of 16 bits give a product that leaves room for a carry of 16 bits
-pub halves_product : {a b : ℕ} → a < 2 ^ 16 → b < 2 ^ 16 → a * b ≤ 0xffff * 0xffff
-halves_product {a} {b} ha hb =
-    let room : (n : ℕ) → n < 2 ^ 16 → n ≤ 0xffff = λ n h. omega (arith, h) in
-    mul-le-mul (room a ha) (room b hb)
+use Prim.Native.Nat.{ℕ, ◌+◌, ◌*◌, ◌/◌, ◌%◌, ◌^◌}
+use native.Mathlib.Nat.{add_assoc, add_comm, add_left_comm, mul_assoc, mul_comm, mul_left_comm, mul-add, add-mul, div-add-mod'}
 
 by_digits : (w a1 a0 b1 b0 : ℕ) → (a1 * w + a0) * (b1 * w + b0) ≡ a1 * b1 * (w * w) + a1 * b0 * w + a0 * b1 * w + a0 * b0
 by_digits w a1 a0 b1 b0 = simp (mul-add, add-mul, mul_assoc, mul_comm, mul_left_comm, add_assoc, add_comm, add_left_comm) refl

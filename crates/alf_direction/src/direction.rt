@@ -34,7 +34,7 @@ fn is_diagonal(d: Gradient, hv: Gradient) -> bool
     product_less(hv.large, d.small, d.large, hv.small)
 }
 
-// (1497)
+// (1497). A number, as a direction is: (1500) adds it to the filter index.
 fn strength(g: Gradient) -> u32
     requires { (g.large < 2 ^ 18) × (g.small < 2 ^ 18) }
     ensures { result ≡ strength_of g }

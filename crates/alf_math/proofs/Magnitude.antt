@@ -10,11 +10,10 @@ use borrow.Author.Tests.{ltb-false}
 use lib.Dec.{ltb}
 use lib.ListN.{get_or}
 use lib.IntN.{ℤ, pos, negsuc, neg_ℤ, nat_abs, ◌+ℤ◌, ◌-ℤ◌, ◌*ℤ◌}
-use lib.Signed.{mag, lt_z, shr_z, mag_shr}
+use lib.Signed.{mag, lt_z, shr_z}
 use mir.Syntax.{Width, w16, w32}
 use mir.Val.{Fits, SFits, hbits, to_z, of_z}
 use mir.Facts.{to_z-of_z, sfits_widen}
-use mir.ValLaws.{sfits_le}
 use Rattle.alf_spec.specs.Lists.{sum_below_ℤ}
 use Rattle.alf_spec.specs.Arithmetic.{clip3, rounded, clipped_change, tap, tap_sum}
 
@@ -56,9 +55,6 @@ mag_abs (negsuc n) = omega arith
 
 pub fits_abs : {w : Width} {z : ℤ} → nat_abs z < 2 ^ hbits w → SFits w z
 fits_abs {w} {z} h = record { sfits = lt_of_le_of_lt (mag_abs z) h }
-
-pub fits_shr : {w : Width} {z : ℤ} (m : ℕ) → SFits w z → SFits w (shr_z z m)
-fits_shr {w} {z} m f = sfits_le (mag_shr z m) f
 
 -- a number cast from an unsigned type
 pub back : (w : Width) (n : ℕ) → n < 2 ^ hbits w → to_z w n ≡ pos n
