@@ -6,6 +6,7 @@ use Rattle.alf_spec.specs.declared.Picture.{Picture}
 use Rattle.alf_spec.specs.declared.Grid.{Grid}
 use Rattle.alf_spec.specs.declared.Sides.{Sides}
 use Rattle.alf_spec.specs.Lists.{every_from, all_below}
+use Rattle.alf_spec.specs.Input.{Layout, layout_of}
 use Rattle.alf_spec.specs.Geometry.{ctb_size}
 use Rattle.alf_spec.specs.Faults.{picture_size_valid, ctb_size_valid, bit_depth_valid, virtual_list_valid}
 use Rattle.alf_math.specs.Grids.{ctbs_along, GridOf, AcceptedPicture}
@@ -30,6 +31,9 @@ picture = record {
   across_tiles = true;
   across_slices = false;
 }
+
+abbrev layout : Layout
+layout = layout_of picture [] [] (0 ∷ 0 ∷ []) (0 ∷ 0 ∷ []) (0 ∷ 1 ∷ 1 ∷ 1 ∷ []) (0 ∷ 0 ∷ 0 ∷ 0 ∷ []) (replicate 64 1)
 
 sizes : picture_size_valid picture ≡ true
 unfolding picture_size_valid
@@ -57,7 +61,7 @@ module _ (g : Grid) (h : GridOf picture g) where
   unfolding ctbs_along ctb_size
   rows = h.rows
 
-  tables : MembershipTables g (0 ∷ 0 ∷ []) (0 ∷ 0 ∷ []) (0 ∷ 1 ∷ 1 ∷ 1 ∷ []) (0 ∷ 0 ∷ 0 ∷ 0 ∷ []) (replicate 64 1)
+  tables : MembershipTables g layout
   unfolding every_from
   tables = record {
     columns_length = sym columns;
