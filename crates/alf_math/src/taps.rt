@@ -4,8 +4,7 @@ ghost use Rattle.std.specs.Prelude.{◌≡◌, ◌<◌};
 ghost use Rattle.alf_spec.specs.Arithmetic.{clipped_change, tap as tap_of};
 ghost use Rattle.alf_math.specs.Integers.{CoeffRange, ClipRange};
 
-// How far a sample is from the current one, clipped to −c .. c: a minimum and a maximum, each one instruction of a vector, as `clamp` is
-// not.
+// How far a sample is from the current one, clipped to −c .. c: a minimum and a maximum, each one instruction of a vector.
 fn clipped_change(curr: u16, c: i16, sample: u16) -> i16
     requires { (curr < 4096) × (ClipRange c) × (sample < 4096) }
     ensures { result ≡ clipped_change curr c sample }

@@ -65,7 +65,8 @@ pub struct ApsRun {
 
 // The run's numbers, put to the front. The slice is that of the CTB at address k.
 pub fn load_from_aps(run: ApsRun, k: usize, input: &FilterInput, filters: &mut [i16])
-    requires { (SliceTables input.now.layout.slice_map input.now.slice_params input.now.bank k) × (RunInAps run) × (length filters.old ≡ 600) }
+    requires { (SliceTables input.now.layout.slice_map input.now.slice_params input.now.bank k) × (RunInAps run)
+        × (length filters.old ≡ 600) }
     ensures { FromAps input.now.layout.slice_map input.now.slice_params input.now.bank k run
         filters.old filters.new }
 {
