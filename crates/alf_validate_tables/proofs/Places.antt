@@ -4,7 +4,8 @@ use Rattle.std.specs.List.{enumerate_from}
 use Rattle.alf_spec.specs.Lists.{every_from}
 
 module _ {A : Type 0} (test : ℕ → A → Bool) where
-  places_from : (k : ℕ) (good : Bool) (xs : List A) → fold (λ b x. b && test x.0 x.1) good (enumerate_from k xs) ≡ (good && every_from k test xs)
+  places_from : (k : ℕ) (good : Bool) (xs : List A) → fold (λ b x. b && test x.0 x.1) good (enumerate_from k xs)
+      ≡ (good && every_from k test xs)
   unfolding every_from
   places_from k true [] = refl
   places_from k false [] = refl

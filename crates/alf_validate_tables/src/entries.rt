@@ -1,13 +1,15 @@
-// Tests of every sample or coefficient. The folds go on past one that fails, so that they can run as vector code.
+// Tests of every sample or coefficient.
 ghost use Rattle.std.specs.Prelude.{◌≡◌, ltb};
 ghost use Rattle.alf_spec.specs.Lists.{every};
 ghost use Rattle.alf_spec.specs.Faults.{coeff_valid};
+
+use alf_validate_layout::entries::every;
 
 // Whether each sample of a plane is below the limit, compared at its own width.
 pub fn samples_below(list: &[u16], limit: u16) -> bool
     ensures { result ≡ every (λ n. ltb n limit) list.now }
 {
-    list.iter().fold(true, |good, n| good & (*n < limit))
+    every(list, |n| *n < limit)
 }
 
 // Whether a coefficient is from -128 to 127.
@@ -22,5 +24,5 @@ pub fn coeff_valid(coefficient: i16) -> bool
 pub fn coefficients_valid(list: &[i16]) -> bool
     ensures { result ≡ every coeff_valid list.now }
 {
-    list.iter().fold(true, |good, n| good & coeff_valid(*n))
+    every(list, |n| coeff_valid(*n))
 }

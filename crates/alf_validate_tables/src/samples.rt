@@ -7,6 +7,7 @@ ghost use Rattle.alf_spec.specs.Faults.{bit_depth_valid, samples_valid};
 
 use crate::entries::samples_below;
 use alf_spec::{Filter, FilterInput, Picture};
+use alf_validate_layout::entries::every;
 
 // Whether each sample of a plane is below 1 << BitDepth.
 #[tactic(auto, using(crate::proofs::BitDepth::one_shifted), unfolding(alf_spec::specs::Faults::bit_depth_valid, alf_spec::specs::Faults::samples_valid))]
@@ -33,12 +34,9 @@ pub fn planes_valid(filter: Filter, input: &FilterInput) -> bool
     }
 }
 
-// Whether each address of the list is below the number of CTBs. The fold goes on past one that fails, so that it can run as vector code.
+// Whether each address of the list is below the number of CTBs.
 pub fn addresses_valid(ctb_total: usize, ctb_list: &[u32]) -> bool
     ensures { result ≡ every (λ n. ltb n ctb_total) ctb_list.now }
 {
-    ctb_list.iter().fold(
-        true,
-        |good, address| good & ((*address as usize) < ctb_total),
-    )
+    every(ctb_list, |address| (*address as usize) < ctb_total)
 }
