@@ -10,14 +10,14 @@ use Rattle.alf_spec.specs.Input.{Layout}
 use Rattle.alf_spec.specs.Geometry.{Side, Axis, luma_plane}
 use Rattle.alf_spec.specs.Boundary.{column_side, row_side}
 use Rattle.alf_spec.specs.Process.{class_at}
+use Rattle.alf_math.specs.Grids.{AcceptedPicture}
 use Rattle.alf_pieces.specs.declared.pieces.Piece.{Piece}
 use Rattle.alf_pieces.specs.Pieces.{PieceOf, CtbOf}
 use Rattle.alf_pieces.specs.Walks.{Axes, PiecesAlong, in_piece}
-use Rattle.alf_classify.specs.PieceClasses.{ClassRooms}
 
--- room for a piece's work, the picture's map, and its luma samples
-pub record ClassWork (p : Picture) (g : Grid) (luma : List ℕ) (copy differences map : ℕ) : Type 0 where
-  pub rooms : ClassRooms p g copy differences
+-- an accepted picture and its grid, the picture's map, and its luma samples
+pub record ClassWork (p : Picture) (g : Grid) (luma : List ℕ) (map : ℕ) : Type 0 where
+  pub picture : AcceptedPicture p g
   pub map_length : map ≡ p.width / 4 * (p.height / 4)
   pub luma_length : length luma ≡ p.width * p.height
   pub samples : (k : ℕ) → get_or luma k 0 < 4096

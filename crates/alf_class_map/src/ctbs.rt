@@ -4,11 +4,18 @@ ghost use Rattle.alf_pieces.specs.Pieces.{BlockPiece};
 ghost use Rattle.alf_pieces.specs.Walks.{AlongAxes, in_walk};
 ghost use Rattle.alf_class_map.specs.ClassWork.{ClassWork, PieceClassified, AxesClassified};
 
-use alf_classify::piece_classes;
+use alf_classify::{AREA, piece_classes};
 use alf_pieces::copies::copy_piece;
 use alf_pieces::pieces::Piece;
 use alf_pieces::walks::{CtbAxes, first_piece, next_piece};
 use alf_spec::{Grid, Picture, Sides};
+
+// Room for the work of a piece: its copy, and the second differences of that.
+#[derive(Drop)]
+pub(crate) struct Rooms {
+    pub copy: [u16; AREA],
+    pub differences: [u16; 4 * AREA],
+}
 
 // The classes of a piece: those of every layout in which a CTB has these sides and the piece is one of its pieces.
 fn class_piece(
@@ -18,22 +25,28 @@ fn class_piece(
     columns: Piece,
     rows: Piece,
     luma: &[u16],
-    copy: &mut [u16],
-    differences: &mut [u16],
+    rooms: &mut Rooms,
     map: &mut [u8],
 )
-    requires { (ClassWork picture grid luma.now (length copy.old) (length differences.old) (length map.old))
+    requires { (ClassWork picture grid luma.now (length map.old))
         × (BlockPiece picture.width columns) × (BlockPiece picture.height rows) }
     ensures { PieceClassified picture sides columns rows luma.now map.old map.new }
 {
-    copy_piece(luma, picture.width as usize, columns, rows, sides, copy);
+    copy_piece(
+        luma,
+        picture.width as usize,
+        columns,
+        rows,
+        sides,
+        &mut rooms.copy,
+    );
     piece_classes(
         picture,
         grid,
         columns,
         rows,
-        copy,
-        differences,
+        &rooms.copy,
+        &mut rooms.differences,
         map,
         (picture.width / 4) as usize,
         (columns.start / 4) as usize,
@@ -48,11 +61,10 @@ pub(crate) fn class_ctb(
     sides: Sides,
     axes: &CtbAxes,
     luma: &[u16],
-    copy: &mut [u16],
-    differences: &mut [u16],
+    rooms: &mut Rooms,
     map: &mut [u8],
 )
-    requires { (ClassWork picture grid luma.now (length copy.old) (length differences.old) (length map.old))
+    requires { (ClassWork picture grid luma.now (length map.old))
         × (AlongAxes axes.now) × (axes.now.columns.size ≡ picture.width) × (axes.now.rows.size ≡ picture.height) }
     ensures { AxesClassified picture sides axes.now luma.now (in_walk (picture.width / 4) 4 4 axes.now) map.old map.new }
 {
@@ -65,8 +77,7 @@ pub(crate) fn class_ctb(
             walk.columns,
             walk.rows,
             luma,
-            copy,
-            differences,
+            rooms,
             map,
         );
         at = next_piece(axes, walk);

@@ -1,4 +1,5 @@
-use Rattle.std.proofs.Common.{refl}
+use Rattle.std.proofs.Common.{refl, ◌≤◌, length, arith}
+use Rattle.alf_pieces.specs.Copies.{copy_length}
 use Rattle.alf_lists.proofs.Painted.{paint_is, paint_of, paint_same}
 use Rattle.alf_pieces.proofs.CopySamples.{copy_small}
 use Rattle.alf_pieces.proofs.CopyRooms.{copy_fits}
@@ -10,8 +11,9 @@ use Rattle.alf_class_map.proofs.ctbs.class_piece.Goals as goal
 -- the copy holds samples, and the picture's own map has room for the piece
 pub piece_classes-requires : goal.piece_classes-requires
 piece_classes-requires c =
-    let room = copy_fits c.requires.1.numbers c.requires.2.numbers c.requires.0.rooms.copy_room in (
-      rw (paint_of c.copy_piece.ensures).len c.requires.0.rooms,
+    let room : copy_length c.args.columns c.args.rows ≤ length c.args.rooms.now.copy =
+    copy_fits c.requires.1.numbers c.requires.2.numbers (omega arith) in (
+      record { picture = c.requires.0.picture; copy_room = omega arith; difference_room = omega arith },
       c.requires.1,
       c.requires.2,
       copy_small _ _ _ _ _ _ _ c.copy_piece.ensures room 4096 c.requires.0.samples,
@@ -21,8 +23,9 @@ piece_classes-requires c =
 -- the copy holds the windows of the piece's blocks
 pub returns : goal.returns
 returns c =
-    let room = copy_fits c.requires.1.numbers c.requires.2.numbers c.requires.0.rooms.copy_room in
+    let room : copy_length c.args.columns c.args.rows ≤ length c.args.rooms.now.copy =
+    copy_fits c.requires.1.numbers c.requires.2.numbers (omega arith) in
     let written = rw ((blocks c.requires.1).last, (blocks c.requires.2).last) at c.piece_classes.ensures in
     λ l ctb of across down.
     paint_is (paint_same (paint_of written) (λ k h. refl)
-    (λ k h. class_same of c.requires.0.rooms.picture.grid across down _ _ _ c.copy_piece.ensures room k))
+    (λ k h. class_same of c.requires.0.picture.grid across down _ _ _ c.copy_piece.ensures room k))

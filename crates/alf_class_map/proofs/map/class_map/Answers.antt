@@ -1,11 +1,9 @@
-use Rattle.std.proofs.Common.{◌*◌, refl, ap, ◌∙◌, zero, length, arith}
-use Rattle.std.proofs.lemmas.List.{length-replicate}
+use Rattle.std.proofs.Common.{refl, ap, ◌∙◌, length, arith}
 use Rattle.alf_spec.specs.Input.{Layout}
 use Rattle.alf_spec.specs.Geometry.{class_plane}
 use Rattle.alf_spec.specs.Process.{class_at, class_map}
 use Rattle.alf_math.proofs.Grids.{few-ctbs}
 use Rattle.alf_boundary.proofs.Tables.{tables_of_lem}
-use Rattle.alf_pieces.specs.Copies.{area}
 use Rattle.alf_pieces.specs.CtbRegions.{before_ctb_if}
 use Rattle.alf_pieces.proofs.CtbPieces.{ctb-accepted, column_pieces, row_pieces}
 use Rattle.alf_pieces.proofs.CtbRegions.{ctb-painted, ctbs_none, ctbs-next, ctb_passes_lem, all_painted}
@@ -28,25 +26,21 @@ plan_sides-requires c =
     (grid, omega (arith, few-ctbs grid), tables_of_lem c.args.layout.now _ grid ok)
 
 pub loop-k-init : goal.loop-k-init
-loop-k-init c = record {
-  copy_room = length-replicate area zero;
-  difference_room = length-replicate (4 * area) zero;
-  classified = ctbs_none _ _ _ _;
-}
+loop-k-init c = ctbs_none _ _ _ _
 
 pub class_ctb-requires : goal.class_ctb-requires
 class_ctb-requires c =
     let picture = ap (λ (l : Layout). l.picture) c.layout.view_is in
     let grid = rw picture at c.grid-grid.ensures in
     rw (picture, c.through-axes.ensures)
-    (ctb-given c.args.layout.now c.args.luma.now (length c.loop-k.map) (rw c.loop-k.invariant.classified.len c.requires) grid
-    (omega arith) (omega arith) c.sides_at-own.result c.loop-k.k c.loop-k-test.true)
+    (ctb-given c.args.layout.now c.args.luma.now (length c.loop-k.map) (rw c.loop-k.invariant.len c.requires) grid
+    c.sides_at-own.result c.loop-k.k c.loop-k-test.true)
 
 pub loop-k-preserved : goal.loop-k-preserved
 loop-k-preserved c =
     let l = c.args.layout.now in
     let k = c.loop-k.k in
-    let old = c.loop-k.invariant.classified in
+    let old = c.loop-k.invariant in
     let ok = accepted-classes l _ _ c.requires in
     let picture = ap (λ (l : Layout). l.picture) c.layout.view_is in
     let grid = rw picture at c.grid-grid.ensures in
@@ -56,12 +50,8 @@ loop-k-preserved c =
     let written = rw (picture, c.through-axes.ensures) at c.class_ctb.ensures in
     let done = ctb-painted l ok 4 4 4 whole-blocks whole-blocks c.loop-k.map size grid (class_at l c.args.luma.now) k
     (written l _ own (column_pieces own grid 4 refl) (row_pieces own grid 4 refl)) in
-    record {
-      copy_room = omega arith;
-      difference_room = omega arith;
-      classified = ctbs-next l (class_plane l) every (class_at l c.args.luma.now) k old
-          (ctb_passes_lem l (class_plane l) every (class_at l c.args.luma.now) k c.loop-k.map refl done);
-    }
+    ctbs-next l (class_plane l) every (class_at l c.args.luma.now) k old
+    (ctb_passes_lem l (class_plane l) every (class_at l c.args.luma.now) k c.loop-k.map refl done)
 
 pub returns : goal.returns
 unfolding class_map before_ctb_if
@@ -70,4 +60,4 @@ returns c =
     let ok = accepted-classes l _ _ c.requires in
     let picture = ap (λ (l : Layout). l.picture) c.layout.view_is in
     let grid = rw picture at c.grid-grid.ensures in
-    all_painted l ok 4 4 4 whole-blocks whole-blocks _ (map-length l _ _ c.requires) grid _ c.loop-k.invariant.classified (omega arith)
+    all_painted l ok 4 4 4 whole-blocks whole-blocks _ (map-length l _ _ c.requires) grid _ c.loop-k.invariant (omega arith)
