@@ -9,8 +9,9 @@ ghost use Rattle.alf_boundary.specs.Clips.{clip_of, side_of, column_axis, row_ax
 use crate::causes::disables;
 use alf_spec::{Clip, ClipCause, Grid, Picture, Sides};
 
-// One axis of the picture through one of its CTBs. Columns and rows have an axis each, so that every rule along an axis is one function;
-// the axis's virtual boundaries are passed beside it.
+// One axis of the picture through one of its CTBs. Columns and rows have an axis each, so that every rule along an axis is one function.
+// The axis's virtual boundaries are passed beside it: with a reference in it, an axis could not be said to equal its definition. What a
+// rule asks of an axis (InCtb) is no invariant of it, since the two functions that make one promise it for every picture.
 #[derive(Clone, Copy)]
 pub struct CtbAxis {
     // the picture's samples along it, and a CTB's
@@ -25,18 +26,16 @@ pub struct CtbAxis {
     pub place: u32,
 }
 
-// The axis of columns through a CTB of the CTB column q.
+// The axis of columns through a CTB of the CTB column q. It and the axis of rows differ in the fields that they read, so they are two.
 pub fn column_axis(picture: Picture, grid: Grid, sides: Sides, q: u32) -> CtbAxis
     ensures { result ≡ column_axis picture grid sides q }
 {
-    let left = sides.left;
-    let right = sides.right;
     CtbAxis {
         size: picture.width,
         ctb: grid.ctb,
         line: 0,
-        before: left,
-        after: right,
+        before: sides.left,
+        after: sides.right,
         place: q,
     }
 }
@@ -45,14 +44,12 @@ pub fn column_axis(picture: Picture, grid: Grid, sides: Sides, q: u32) -> CtbAxi
 pub fn row_axis(picture: Picture, grid: Grid, sides: Sides, line: u32, q: u32) -> CtbAxis
     ensures { result ≡ row_axis picture grid sides line q }
 {
-    let top = sides.top;
-    let bottom = sides.bottom;
     CtbAxis {
         size: picture.height,
         ctb: grid.ctb,
         line: line,
-        before: top,
-        after: bottom,
+        before: sides.top,
+        after: sides.bottom,
         place: q,
     }
 }
@@ -95,9 +92,8 @@ fn near_boundary(after: bool, boundaries: &[u16], x: u32) -> Option<u32>
         .find(|b| is_near(after, x, *b))
 }
 
-// The same as a clip position with its cause.
+// The same boundary as a clip position with its cause.
 pub fn virtual_clip(after: bool, boundaries: &[u16], x: u32) -> Option<Clip>
-    requires { x ≤ 65535 }
     ensures { (size ctb line ratio : ℕ)
         → clip_of result ≡ virtual_clip (axis_of size ctb boundaries.now line ratio) x (side_of after) }
 {

@@ -1,12 +1,11 @@
 -- A row of a piece: where it lies in the copy and in the plane, and that its samples are the piece's. Assumes nothing.
-use mathlib.Core.Path.{◌≡◌, ap}
+use mathlib.Core.Path.{◌≡◌, refl, ap}
 use mathlib.Core.Bool.{Bool, true, ◌&&◌}
 use mathlib.Core.List.{List}
 use Prim.Native.Nat.{ℕ, ◌+◌, ◌-◌, ◌*◌, ◌/◌, ◌%◌, ◌≤◌, ◌<◌}
 use native.Mathlib.Nat.{le_trans, div-le_self, mul_comm, mul-le-mul_right}
 use native.Mathlib.Omega.{arith}
 use lib.IntN.{ℤ}
-use lib.ListN.{length, get_or}
 use Rattle.alf_spec.specs.declared.ChromaRows.{ChromaRows}
 use Rattle.alf_spec.specs.declared.Grid.{Grid}
 use Rattle.alf_spec.specs.declared.Picture.{Picture}
@@ -14,12 +13,13 @@ use Rattle.alf_spec.specs.Geometry.{sub_width, sub_height}
 use Rattle.alf_spec.specs.Chroma.{chroma_rows}
 use Rattle.alf_spec.proofs.Tests.{cond_either}
 use Rattle.alf_spec.proofs.Ratios.{Ratio, whole, half, chroma_ratios}
-use Rattle.alf_math.proofs.Grids.{width_bounds, height_bounds, depth_bounds}
+use Rattle.alf_math.proofs.Grids.{width_bounds, height_bounds}
 use Rattle.alf_pieces.specs.declared.pieces.Piece.{Piece}
 use Rattle.alf_lists.specs.Regions.{between}
-use Rattle.alf_pieces.specs.Copies.{extent, pitch}
+use Rattle.alf_pieces.specs.Copies.{extent, pitch, copy_length}
 use Rattle.alf_lists.proofs.Regions.{run_facts, row_of, row_room}
-use Rattle.alf_chroma.specs.Samples.{piece_sample_from}
+use Rattle.alf_chroma.specs.declared.kernel.ChromaStarts.{ChromaStarts}
+use Rattle.alf_chroma.specs.Samples.{ChromaReads, chroma_starts_of, chroma_copy_sample_from, piece_sample}
 use Rattle.alf_chroma.specs.Pieces.{RowsWork, chroma_rows_of, copy_chroma_at}
 
 -- what Table 46 can say: the farther row is the second, at most 2 away, and a sum can be shifted so far
@@ -66,34 +66,39 @@ module _ {p : Picture} {g : Grid} {columns rows : Piece} {copy : List ℕ} {taps
 
     module _ (r : ChromaRows) (table : r ≡ chroma_rows_of p.height g.ctb ratio y) (from : ℕ)
         (at : from ≡ y * width + columns.start) where
-      -- what the row's function asks
-      pub row_ready : (n ≤ 128) × (y - rows.start < 128) × (r.y1 ≤ r.y2) × (r.y2 ≤ 2) × (r.shift < 32) × (p.bit_depth ≤ 12)
-          × (from + n ≤ output) × ((y - rows.start + 6) * (n + 6) ≤ length copy)
-          × ((k : ℕ) → k < (y - rows.start + 6) * (n + 6) → get_or copy k 0 < 4096)
-      row_ready =
+      -- the rows that its taps read
+      abbrev starts : ChromaStarts
+      starts = chroma_starts_of (n + 6) (y - rows.start) r
+
+      -- they stand in the copy, and the row in the plane
+      pub row_reads : ChromaReads copy starts n
+      row_reads =
+          let near : Bounds r = rw table (row_bounds _ _) in
+          let down : rows.end - rows.start + 6 ≡ pitch rows = refl in
+          let all : pitch rows * (n + 6) ≡ copy_length columns rows = rw B.n_is in
+          let last : (y - rows.start + 3 + r.y2 + 1) * (n + 6) ≤ pitch rows * (n + 6) = mul-le-mul_right (n + 6) (omega arith) in
+          record {
+            rise = (
+              mul-le-mul_right (n + 6) (omega arith),
+              mul-le-mul_right (n + 6) (omega arith),
+              mul-le-mul_right (n + 6) (omega arith),
+              mul-le-mul_right (n + 6) (omega arith),
+            );
+            room = omega (arith, B.work.copy_room);
+            samples = λ k h. B.work.samples k (omega arith);
+          }
+
+      pub row_room_lem : from + n ≤ output
+      row_room_lem =
           let W = B.work in
-          let A = W.across in
-          let D = W.down in
-          let bounds : Bounds r = rw table (row_bounds _ _) in
-          let in_copy : (y - rows.start + 6) * (n + 6) ≤ pitch rows * pitch columns =
-          rw B.n_is (mul-le-mul_right (pitch columns) (omega arith)) in
           let height : ℕ = p.height / sub_height p in
-          let in_plane : y * width + width ≤ height * width = row_room y height width _ (omega (arith, D.high, D.inside))
-          (omega arith) in (
-            omega (arith, B.n_is, A.small),
-            omega (arith, D.small),
-            bounds.0,
-            bounds.1,
-            bounds.2,
-            (depth_bounds p W.picture.depth).1,
-            omega (arith, at, in_plane_lem, in_plane, W.output_length, ap (λ (w : ℕ). w * height) B.width_is, mul_comm width height),
-            omega (arith, in_copy, W.copy_room),
-            λ k h. W.samples k (omega (arith, in_copy)),
-          )
+          let in_plane : y * width + width ≤ height * width =
+          row_room y height width _ (omega (arith, W.down.high, W.down.inside)) (omega arith) in
+          omega (arith, at, in_plane_lem, in_plane, W.output_length, ap (λ (w : ℕ). w * height) B.width_is, mul_comm width height)
 
       pub row_sample_lem : (k : ℕ) → between from n k ≡ true
-          → piece_sample_from copy (n + 6) r taps p.bit_depth (y - rows.start) from k ≡ copy_chroma_at p g.ctb copy taps columns rows k
-      unfolding copy_chroma_at
+          → chroma_copy_sample_from copy starts taps r.shift p.bit_depth from k ≡ copy_chroma_at p g.ctb copy taps columns rows k
+      unfolding copy_chroma_at piece_sample
       row_sample_lem k t =
           let f = run_facts from n k t in
           let e = row_of width y k (omega (arith, at)) (omega (arith, at, in_plane_lem)) in

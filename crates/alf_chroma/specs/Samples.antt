@@ -48,10 +48,6 @@ chroma_starts_of pitch t r = record {
 unfoldable pub piece_sample : List ℕ → ℕ → ChromaRows → List ℤ → ℕ → ℕ → ℕ → ℕ
 piece_sample copy pitch r taps depth t x = chroma_copy_sample copy (chroma_starts_of pitch t r) taps r.shift depth x
 
--- the filtered sample at index k of the plane, where the piece's row t begins at index `from`
-abbrev pub piece_sample_from : List ℕ → ℕ → ChromaRows → List ℤ → ℕ → ℕ → ℕ → ℕ → ℕ
-piece_sample_from copy pitch r taps depth t from k = piece_sample copy pitch r taps depth t (k - from)
-
 -- the rows lie one below the other, and n columns of them, with three more on either side, hold samples
 pub record ChromaReads (copy : List ℕ) (s : ChromaStarts) (n : ℕ) : Type 0 where
   pub rise : (s.above2 ≤ s.above1) × (s.above1 ≤ s.here) × (s.here ≤ s.below1) × (s.below1 ≤ s.below2)

@@ -1,5 +1,5 @@
 // A piece of a CTB filtered: its copy, its filter's numbers spread over the columns, and then row by row.
-ghost use Rattle.std.specs.Prelude.{◌≡◌, ℕ, ◌+◌, ◌*◌, ◌/◌, ◌≤◌, ◌<◌, length, get_or, pos};
+ghost use Rattle.std.specs.Prelude.{◌≡◌, ℕ, ◌+◌, ◌/◌, ◌≤◌, ◌<◌, length, get_or, pos};
 ghost use Rattle.alf_spec.specs.Lists.{painted};
 ghost use Rattle.alf_spec.specs.Input.{Input};
 ghost use Rattle.alf_spec.specs.Geometry.{sub_width, sub_height, chroma_plane};
@@ -8,10 +8,10 @@ ghost use Rattle.alf_spec.specs.Chroma.{chroma_sample};
 ghost use Rattle.alf_spec.specs.Process.{at_index};
 ghost use Rattle.alf_spec.specs.declared.Ctb.{Ctb};
 ghost use Rattle.alf_math.specs.Integers.{CoeffRange, ClipRange};
-ghost use Rattle.alf_lists.specs.Regions.{between, in_rect};
+ghost use Rattle.alf_lists.specs.Regions.{in_rect};
 ghost use Rattle.alf_pieces.specs.Pieces.{PieceIn, PieceOf, CtbOf};
 ghost use Rattle.alf_taps.specs.Spread.{TapNumbers};
-ghost use Rattle.alf_chroma.specs.Samples.{chroma_starts_of, piece_sample_from};
+ghost use Rattle.alf_chroma.specs.Samples.{chroma_starts_of};
 ghost use Rattle.alf_params.specs.Filters.{ChromaFilter};
 ghost use Rattle.alf_chroma.specs.Pieces.{Spread, RowsWork, ChromaWork, unlined_plane, copy_chroma_at};
 
@@ -57,33 +57,6 @@ fn chroma_starts(pitch: usize, t: usize, r: ChromaRows) -> ChromaStarts
     }
 }
 
-// The filtered samples of row t of a piece of n columns.
-fn filter_row(
-    copy: &[u16],
-    n: usize,
-    t: usize,
-    offsets: ChromaRows,
-    taps: &[i16],
-    depth: u32,
-    output: &mut [u16],
-    from: usize,
-)
-    requires { (n ≤ 128) × (t < 128) × (offsets.y1 ≤ offsets.y2) × (offsets.y2 ≤ 2) × (offsets.shift < 32) × (depth ≤ 12)
-        × (TapNumbers taps.now) × (from + n ≤ length output.old)
-        × ((t + 6) * (n + 6) ≤ length copy.now) × ((k : ℕ) → k < (t + 6) * (n + 6) → get_or copy.now k 0 < 4096) }
-    ensures { output.new ≡ painted output.old (between from n)
-        (piece_sample_from copy.now (n + 6) offsets taps.now depth t from) }
-{
-    let source = ChromaSource {
-        copy,
-        starts: chroma_starts(n + 6, t, offsets),
-        taps,
-        shift: offsets.shift,
-        depth,
-    };
-    chroma_row(&source, n, output, from);
-}
-
 // The filtered samples of a piece, row by row, from its copy.
 fn filter_rows(
     picture: Picture,
@@ -100,22 +73,18 @@ fn filter_rows(
         (copy_chroma_at picture grid.ctb copy.now taps.now columns rows) }
 {
     let n = extent(columns);
-    let depth = picture.bit_depth as u32;
     let width = picture.width / sub_width(picture);
     let ratio = sub_height(picture);
     for y in rows.start..rows.end {
         let offsets = rows_at(picture.height, grid.ctb, ratio, y);
-        let from = plane_index(width, y, columns.start);
-        filter_row(
+        let source = ChromaSource {
             copy,
-            n,
-            (y - rows.start) as usize,
-            offsets,
+            starts: chroma_starts(n + 6, (y - rows.start) as usize, offsets),
             taps,
-            depth,
-            output,
-            from,
-        );
+            shift: offsets.shift,
+            depth: picture.bit_depth as u32,
+        };
+        chroma_row(&source, n, output, plane_index(width, y, columns.start));
     }
 }
 

@@ -66,17 +66,17 @@ fn cross_sum(source: &CrossSource, s: CrossStarts, at: usize) -> i32
     ensures { (result ≡ split_sum source.now.split.now s source.now.coeffs at) × (nat_abs result ≤ 7 * (128 * 4095)) }
 {
     let split = source.split;
-    let f = source.coeffs;
+    let [f0, f1, f2, f3, f4, f5, f6] = source.coeffs;
     let here = s.here;
     let own = s.own;
     let middle = split[here + at + own];
-    let s0 = cross_tap(0, split, middle, s.above1, at, own, f[0]);
-    let s1 = cross_tap(s0, split, middle, here, at, s.left, f[1]);
-    let s2 = cross_tap(s1, split, middle, here, at, s.right, f[2]);
-    let s3 = cross_tap(s2, split, middle, s.below1, at, s.left, f[3]);
-    let s4 = cross_tap(s3, split, middle, s.below1, at, own, f[4]);
-    let s5 = cross_tap(s4, split, middle, s.below1, at, s.right, f[5]);
-    cross_tap(s5, split, middle, s.below2, at, own, f[6])
+    let s0 = cross_tap(0, split, middle, s.above1, at, own, f0);
+    let s1 = cross_tap(s0, split, middle, here, at, s.left, f1);
+    let s2 = cross_tap(s1, split, middle, here, at, s.right, f2);
+    let s3 = cross_tap(s2, split, middle, s.below1, at, s.left, f3);
+    let s4 = cross_tap(s3, split, middle, s.below1, at, own, f4);
+    let s5 = cross_tap(s4, split, middle, s.below1, at, s.right, f5);
+    cross_tap(s5, split, middle, s.below2, at, own, f6)
 }
 
 // The chroma sample `curr`, which is sample `at` of its row, corrected by its taps.

@@ -133,3 +133,8 @@ module _ (size ctb q : ℕ) (ctb8 : ctb % 8 ≡ 0) (begins : q * ctb < size) whe
   pub blocks-within : {count : ℕ} → count ≡ blocks_along size ctb q → q * (ctb / 8) + count ≤ size / 8
   unfolding blocks_along
   blocks-within e = omega (arith, first_block)
+
+-- a row of blocks of the CTB at place q of the rows is one of the picture's
+pub row_below : {p : Picture} {ctb : ℕ} {region : List ℕ} → BlocksOf p ctb region → (q j : ℕ) → q * ctb < p.height
+    → {rows : ℕ} → rows ≡ blocks_along p.height ctb q → j < rows → q * (ctb / 8) + j < p.height / 8
+row_below b q j begins e below = omega (arith, blocks-within _ _ q b.ctb8 begins e)

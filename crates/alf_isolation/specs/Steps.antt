@@ -8,7 +8,7 @@ use Rattle.alf_spec.specs.Lists.{implies, all_below, elem}
 use Rattle.alf_spec.specs.Input.{Layout}
 use Rattle.alf_spec.specs.Geometry.{ctb_of}
 use Rattle.alf_spec.specs.Boundary.{disables}
-use Rattle.alf_isolation.specs.declared.steps.BlockEnds.{BlockEnds}
+use Rattle.alf_isolation.specs.declared.axis.BlockEnds.{BlockEnds}
 use Rattle.alf_isolation.specs.declared.steps.BlockSides.{BlockSides}
 use Rattle.alf_isolation.specs.Blocks.{ctb_passes}
 

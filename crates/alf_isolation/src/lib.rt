@@ -2,9 +2,9 @@
 // speaks of all samples.
 #![tactic(auto)]
 
+mod axis;
 mod neighbours;
 mod regions;
 mod steps;
-mod virtual_boundaries;
 
 pub use regions::region_isolated;

@@ -1,117 +1,66 @@
 // The isolation test of a region: the sides of all CTBs first, then the blocks of a CTB at a time, row by row.
-ghost use Rattle.std.specs.Prelude.{◌≡◌, ◌*◌, ◌%◌, ◌<◌};
-ghost use Rattle.alf_spec.specs.Input.{layout_of};
-ghost use Rattle.alf_spec.specs.Faults.{isolation_fault};
+ghost use Rattle.std.specs.Prelude.{◌≡◌, true, ◌*◌, ◌<◌};
+ghost use Rattle.alf_spec.specs.Faults.{isolation_fault, picture_size_valid, ctb_size_valid};
 ghost use Rattle.alf_spec.specs.Isolation.{isolated};
-ghost use Rattle.alf_isolation.specs.Steps.{blocks_along, ctb_test, BlocksOf};
+ghost use Rattle.alf_math.specs.Grids.{GridOf};
+ghost use Rattle.alf_isolation.specs.Steps.{ctb_test, BlocksOf};
 
-use crate::neighbours::run_passes;
+use crate::axis::{column_axis, row_axis};
+use crate::neighbours::{BlockRow, run_passes};
 use crate::steps::row_sides;
 use alf_math::grid::grid;
 use alf_sides::{CTBS, plan_sides, sides_at};
-use alf_spec::{Ctb, Grid, Picture, Sides};
-
-// How many blocks the CTB at place q of an axis has: the last CTB may not be whole.
-fn blocks_along(size: u32, ctb: u32, q: u32) -> u32
-    requires { (ctb % 8 ≡ 0) × (q * ctb < size) }
-    ensures { result ≡ blocks_along size ctb q }
-{
-    let whole = ctb / 8;
-    let rest = size / 8 - q * whole;
-    if whole < rest { whole } else { rest }
-}
+use alf_spec::{Ctb, Grid, Layout, Sides};
 
 // Whether each block of the CTB passes. The sides of a row of blocks are found once.
-fn ctb_passes(
-    picture: Picture,
-    grid: Grid,
-    virtual_columns: &[u16],
-    virtual_rows: &[u16],
-    region: &[u8],
-    ctb: Ctb,
-    sides: Sides,
-) -> bool
-    requires { (BlocksOf picture grid.ctb region.now)
-        × (ctb.column * grid.ctb < picture.width) × (ctb.row * grid.ctb < picture.height) }
-    ensures { result ≡ ctb_test picture grid.ctb virtual_columns.now virtual_rows.now region.now
-        ctb sides }
+fn ctb_passes(layout: &Layout, size: u32, region: &[u8], ctb: Ctb, sides: Sides) -> bool
+    requires { (BlocksOf layout.now.picture size region.now)
+        × (ctb.column * size < layout.now.picture.width) × (ctb.row * size < layout.now.picture.height) }
+    ensures { result ≡ ctb_test layout.now.picture size layout.now.virtual_columns layout.now.virtual_rows region.now ctb sides }
 {
-    let whole = grid.ctb / 8;
-    let left = ctb.column * whole;
-    let top = ctb.row * whole;
-    let columns = blocks_along(picture.width, grid.ctb, ctb.column);
-    let rows = blocks_along(picture.height, grid.ctb, ctb.row);
-    let mut j = 0;
-    while j < rows {
+    let columns = column_axis(layout, size);
+    let rows = row_axis(layout, size);
+    let left = ctb.column * (size / 8);
+    let top = ctb.row * (size / 8);
+    let count = columns.blocks_in(ctb.column);
+    for j in 0..rows.blocks_in(ctb.row) {
         let y = top + j;
-        let own = row_sides(picture.height, grid.ctb, virtual_rows, sides, y);
-        let from = y * (picture.width / 8);
-        if !run_passes(
-            picture.width,
-            grid.ctb,
-            virtual_columns,
-            region,
-            from,
-            own,
-            left,
-            columns,
-        ) {
+        let row = BlockRow {
+            from: y * (columns.size / 8),
+            sides: row_sides(&rows, sides, y),
+        };
+        if !run_passes(&columns, region, row, left, count) {
             return false;
         }
-        j += 1;
     }
     true
 }
 
-// Whether the region is isolated; the layout and the region are accepted already.
-pub fn region_isolated(
-    picture: Picture,
-    virtual_columns: &[u16],
-    virtual_rows: &[u16],
-    tile_columns: &[u8],
-    tile_rows: &[u8],
-    slice_map: &[u8],
-    subpic_map: &[u8],
-    subpic_across: &[u8],
-    region: &[u8],
-) -> bool
-    requires { isolation_fault (layout_of picture virtual_columns.now virtual_rows.now tile_columns.now tile_rows.now
-        slice_map.now subpic_map.now subpic_across.now) region.now ≡ 0 }
-    ensures { result ≡ isolated (layout_of picture virtual_columns.now virtual_rows.now
-        tile_columns.now tile_rows.now slice_map.now subpic_map.now
-        subpic_across.now) region.now }
+// The grid of the layout's picture.
+fn grid_of(layout: &Layout) -> Grid
+    requires { (picture_size_valid layout.now.picture ≡ true) × (ctb_size_valid layout.now.picture ≡ true) }
+    ensures { GridOf layout.now.picture result }
 {
-    let grid = grid(picture);
-    let total = grid.columns * grid.rows;
-    let mut sides: [u16; CTBS] = [0; CTBS];
-    plan_sides(
-        picture,
-        grid,
-        tile_columns,
-        tile_rows,
-        slice_map,
-        subpic_map,
-        subpic_across,
-        &mut sides,
-    );
-    let mut k = 0;
-    while k < total {
+    grid(layout.picture)
+}
+
+// Whether the region is isolated; the layout and the region are accepted already.
+pub fn region_isolated(layout: &Layout, region: &[u8]) -> bool
+    requires { isolation_fault layout.now region.now ≡ 0 }
+    ensures { result ≡ isolated layout.now region.now }
+{
+    let grid = grid_of(layout);
+    let mut table: [u16; CTBS] = [0; CTBS];
+    plan_sides(layout, grid, &mut table);
+    for k in 0..grid.columns * grid.rows {
         let ctb = Ctb {
             column: k % grid.columns,
             row: k / grid.columns,
         };
-        if !ctb_passes(
-            picture,
-            grid,
-            virtual_columns,
-            virtual_rows,
-            region,
-            ctb,
-            sides_at(&sides, k),
-        ) {
+        let sides = sides_at(&table, k);
+        if !ctb_passes(layout, grid.ctb, region, ctb, sides) {
             return false;
         }
-        k += 1;
     }
     true
 }

@@ -41,12 +41,8 @@ fn corner_bit(disabled: bool) -> u16
 pub(crate) fn entry_of(sides: Sides) -> u16
     ensures { result ≡ entry_of sides }
 {
-    let left = sides.left;
-    let right = sides.right;
-    let top = sides.top;
-    let bottom = sides.bottom;
-    let columns = cause_bits(left) + 8 * cause_bits(right);
-    let rows = 64 * cause_bits(top) + 512 * cause_bits(bottom);
+    let columns = cause_bits(sides.left) + 8 * cause_bits(sides.right);
+    let rows = 64 * cause_bits(sides.top) + 512 * cause_bits(sides.bottom);
     let corners = 4096 * corner_bit(sides.upper_left) + 8192 * corner_bit(sides.lower_right);
     columns + rows + corners
 }

@@ -1,4 +1,5 @@
-// The table of the sides of all CTBs.
+// The table of the sides of all CTBs. An entry is a number and no Sides: whoever has a table has it on the stack, where it takes 32 KB so,
+// and not 96.
 ghost use Rattle.std.specs.Prelude.{◌≡◌, ◌*◌, ◌≤◌, ◌<◌, length, get_or};
 ghost use Rattle.alf_math.specs.Grids.{GridOf};
 ghost use Rattle.alf_boundary.specs.Tables.{MembershipTables};

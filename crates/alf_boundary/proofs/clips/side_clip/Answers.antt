@@ -13,4 +13,5 @@ pub returns-else-after : goal.returns-else-after
 unfolding side_clip
 returns-else-after c boundaries ratio =
     let start = c.ctb_start-start.ensures in
-    rw (c.if-after.false, ← c.disables-else-after.ensures, in_ctb_lem c.requires start, start_is c.requires start) c.only_if-else-after.ensures
+    rw (c.if-after.false, ← c.disables-else-after.ensures, in_ctb_lem c.requires start, start_is c.requires start)
+    c.only_if-else-after.ensures

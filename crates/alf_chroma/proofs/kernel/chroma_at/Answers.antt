@@ -20,7 +20,8 @@ filtered-requires c =
     let reads = c.requires.0 in
     let small = spread_sum s.numbers c.args.x c.requires.1 6 (omega arith) (get_or s.copy.now (s.starts.here + c.args.x + 3) 0)
     (copy_plus s.copy.now s.starts c.args.x) (copy_minus s.copy.now s.starts c.args.x) in
-    rw (summed (goal.at.filtered-requires c).After-chroma_sum) (reads.samples _ (omega (arith, reads.rise)), omega (arith, small), s.shift_fits, s.depth_fits)
+    rw (summed (goal.at.filtered-requires c).After-chroma_sum)
+    (reads.samples _ (omega (arith, reads.rise)), omega (arith, small), s.shift_fits, s.depth_fits)
 
 pub returns : goal.returns
 unfolding chroma_copy_sample

@@ -6,7 +6,8 @@ use Rattle.alf_taps.proofs.SpreadTaps.{TapsGiven, SpreadSum, tap_added, tap_read
 use Rattle.alf_chroma.specs.declared.source.ChromaSource.{ChromaSource}
 use Rattle.alf_chroma.specs.Samples.{ChromaReads, copy_plus, copy_minus}
 use Rattle.alf_chroma.proofs.kernel.chroma_sum.Goals as goal
-use Rattle.alf_chroma.proofs.kernel.chroma_sum.Goals.{After-add_tap-s0, After-add_tap-s1, After-add_tap-s2, After-add_tap-s3, After-add_tap-s4}
+use Rattle.alf_chroma.proofs.kernel.chroma_sum.Goals.{After-add_tap-s0, After-add_tap-s1, After-add_tap-s2}
+use Rattle.alf_chroma.proofs.kernel.chroma_sum.Goals.{After-add_tap-s3, After-add_tap-s4}
 
 -- (1508): the first of each tap's pair
 abbrev plus : ChromaSource → ℕ → List ℕ
@@ -30,7 +31,8 @@ unfolding copy_plus copy_minus
 sum-1 c =
     let s = c.args.source.now in
     let x = c.args.x in
-    tap_added (given s x c.args.curr c.requires) (plus s x) (minus s x) summed_none (omega arith) c.add_tap-s0.type_inv c.add_tap-s0.ensures
+    tap_added (given s x c.args.curr c.requires) (plus s x) (minus s x)
+    summed_none (omega arith) c.add_tap-s0.type_inv c.add_tap-s0.ensures
 
 sum-2 : (c : After-add_tap-s1) → Sum c.args.source.now c.args.x c.args.curr 2 c.add_tap-s1.result
 unfolding copy_plus copy_minus
@@ -38,7 +40,8 @@ sum-2 c =
     let s = c.args.source.now in
     let x = c.args.x in
     let last : After-add_tap-s0 = search rules in
-    tap_added (given s x c.args.curr c.requires) (plus s x) (minus s x) (sum-1 last) (omega arith) c.add_tap-s1.type_inv c.add_tap-s1.ensures
+    tap_added (given s x c.args.curr c.requires) (plus s x) (minus s x)
+    (sum-1 last) (omega arith) c.add_tap-s1.type_inv c.add_tap-s1.ensures
 
 sum-3 : (c : After-add_tap-s2) → Sum c.args.source.now c.args.x c.args.curr 3 c.add_tap-s2.result
 unfolding copy_plus copy_minus
@@ -46,7 +49,8 @@ sum-3 c =
     let s = c.args.source.now in
     let x = c.args.x in
     let last : After-add_tap-s1 = search rules in
-    tap_added (given s x c.args.curr c.requires) (plus s x) (minus s x) (sum-2 last) (omega arith) c.add_tap-s2.type_inv c.add_tap-s2.ensures
+    tap_added (given s x c.args.curr c.requires) (plus s x) (minus s x)
+    (sum-2 last) (omega arith) c.add_tap-s2.type_inv c.add_tap-s2.ensures
 
 sum-4 : (c : After-add_tap-s3) → Sum c.args.source.now c.args.x c.args.curr 4 c.add_tap-s3.result
 unfolding copy_plus copy_minus
@@ -54,7 +58,8 @@ sum-4 c =
     let s = c.args.source.now in
     let x = c.args.x in
     let last : After-add_tap-s2 = search rules in
-    tap_added (given s x c.args.curr c.requires) (plus s x) (minus s x) (sum-3 last) (omega arith) c.add_tap-s3.type_inv c.add_tap-s3.ensures
+    tap_added (given s x c.args.curr c.requires) (plus s x) (minus s x)
+    (sum-3 last) (omega arith) c.add_tap-s3.type_inv c.add_tap-s3.ensures
 
 sum-5 : (c : After-add_tap-s4) → Sum c.args.source.now c.args.x c.args.curr 5 c.add_tap-s4.result
 unfolding copy_plus copy_minus
@@ -62,42 +67,48 @@ sum-5 c =
     let s = c.args.source.now in
     let x = c.args.x in
     let last : After-add_tap-s3 = search rules in
-    tap_added (given s x c.args.curr c.requires) (plus s x) (minus s x) (sum-4 last) (omega arith) c.add_tap-s4.type_inv c.add_tap-s4.ensures
+    tap_added (given s x c.args.curr c.requires) (plus s x) (minus s x)
+    (sum-4 last) (omega arith) c.add_tap-s4.type_inv c.add_tap-s4.ensures
 
 pub add_tap-s1-requires : goal.add_tap-s1-requires
 add_tap-s1-requires c =
     let s = c.args.source.now in
     let x = c.args.x in
     let r = s.starts in
-    tap_ready (given s x c.args.curr c.requires) (plus s x) (minus s x) r.below1 4 r.above1 2 128 (sum-1 c) (omega (arith, c.requires.0.rise))
+    tap_ready (given s x c.args.curr c.requires) (plus s x) (minus s x)
+    r.below1 4 r.above1 2 128 (sum-1 c) (omega (arith, c.requires.0.rise))
 
 pub add_tap-s2-requires : goal.add_tap-s2-requires
 add_tap-s2-requires c =
     let s = c.args.source.now in
     let x = c.args.x in
     let r = s.starts in
-    tap_ready (given s x c.args.curr c.requires) (plus s x) (minus s x) r.below1 3 r.above1 3 256 (sum-2 c) (omega (arith, c.requires.0.rise))
+    tap_ready (given s x c.args.curr c.requires) (plus s x) (minus s x)
+    r.below1 3 r.above1 3 256 (sum-2 c) (omega (arith, c.requires.0.rise))
 
 pub add_tap-s3-requires : goal.add_tap-s3-requires
 add_tap-s3-requires c =
     let s = c.args.source.now in
     let x = c.args.x in
     let r = s.starts in
-    tap_ready (given s x c.args.curr c.requires) (plus s x) (minus s x) r.below1 2 r.above1 4 384 (sum-3 c) (omega (arith, c.requires.0.rise))
+    tap_ready (given s x c.args.curr c.requires) (plus s x) (minus s x)
+    r.below1 2 r.above1 4 384 (sum-3 c) (omega (arith, c.requires.0.rise))
 
 pub add_tap-s4-requires : goal.add_tap-s4-requires
 add_tap-s4-requires c =
     let s = c.args.source.now in
     let x = c.args.x in
     let r = s.starts in
-    tap_ready (given s x c.args.curr c.requires) (plus s x) (minus s x) r.here 5 r.here 1 512 (sum-4 c) (omega (arith, c.requires.0.rise))
+    tap_ready (given s x c.args.curr c.requires) (plus s x) (minus s x)
+    r.here 5 r.here 1 512 (sum-4 c) (omega (arith, c.requires.0.rise))
 
 pub add_tap-requires : goal.add_tap-requires
 add_tap-requires c =
     let s = c.args.source.now in
     let x = c.args.x in
     let r = s.starts in
-    tap_ready (given s x c.args.curr c.requires) (plus s x) (minus s x) r.here 4 r.here 2 640 (sum-5 c) (omega (arith, c.requires.0.rise))
+    tap_ready (given s x c.args.curr c.requires) (plus s x) (minus s x)
+    r.here 4 r.here 2 640 (sum-5 c) (omega (arith, c.requires.0.rise))
 
 pub returns : goal.returns
 unfolding copy_plus copy_minus tap_sum
@@ -105,4 +116,5 @@ returns c =
     let s = c.args.source.now in
     let x = c.args.x in
     let last : After-add_tap-s4 = search rules in
-    (tap_added (given s x c.args.curr c.requires) (plus s x) (minus s x) (sum-5 last) (omega arith) c.add_tap.type_inv c.add_tap.ensures).is
+    (tap_added (given s x c.args.curr c.requires) (plus s x) (minus s x)
+    (sum-5 last) (omega arith) c.add_tap.type_inv c.add_tap.ensures).is

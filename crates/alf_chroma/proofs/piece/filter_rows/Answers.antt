@@ -1,10 +1,12 @@
 -- One row more is filtered. Assumes nothing.
 use Rattle.std.proofs.Common.{◌≡◌, ◌/◌, length, inr, arith}
+use Rattle.alf_math.proofs.Grids.{depth_bounds}
 use Rattle.alf_lists.proofs.Painted.{paint_is, paint_none, paint_call}
 use Rattle.alf_lists.proofs.Regions.{rect_none, rect_more}
-use Rattle.alf_chroma.proofs.PieceRows.{Begun, row-ratio, narrow, last-column, in_plane_lem, row_small, row_ready, row_sample_lem}
+use Rattle.alf_chroma.proofs.PieceRows.{Begun, row-ratio, narrow, last-column, in_plane_lem, row_small, row_reads, row_room_lem, row_sample_lem}
+use Rattle.alf_chroma.proofs.PieceRows.{Bounds, row_bounds}
 use Rattle.alf_chroma.proofs.piece.filter_rows.Goals as goal
-use Rattle.alf_chroma.proofs.piece.filter_rows.Goals.{After-sub_height-ratio}
+use Rattle.alf_chroma.proofs.piece.filter_rows.Goals.{After-sub_height-ratio, After-rows_at-offsets}
 
 -- what the rows are filtered from
 begun : (c : After-sub_height-ratio) → let a = c.args in
@@ -27,22 +29,41 @@ rows_at-offsets-requires c =
     let r = row-ratio B in
     (omega (arith, G.ctb_low), G.ctb_high, r.0, r.1, row_small B _ c.loop-y.auto.y c.loop-y-test.true)
 
-pub plane_index-from-requires : goal.plane_index-from-requires
-plane_index-from-requires c =
-    let B = begun (goal.at.plane_index-from-requires c).After-sub_height-ratio in
+-- what Table 46 says of the loop's row
+table : (c : After-rows_at-offsets) → Bounds c.rows_at-offsets.result
+table c = rw c.rows_at-offsets.ensures (row_bounds _ _)
+
+pub chroma_starts-requires : goal.chroma_starts-requires
+chroma_starts-requires c =
+    let near = table (goal.at.chroma_starts-requires c).After-rows_at-offsets in
+    let across = c.requires.across in
+    let down = c.requires.down in
+    (omega (arith, c.extent-n.ensures, across.small), omega (arith, down.small), omega arith, omega arith)
+
+pub invariant_of-source : goal.invariant_of-source
+invariant_of-source c =
+    let near = table (goal.at.invariant_of-source c).After-rows_at-offsets in
+    record { numbers = c.requires.numbers; shift_fits = near.2; depth_fits = (depth_bounds _ c.requires.picture.depth).1 }
+
+pub plane_index-requires : goal.plane_index-requires
+plane_index-requires c =
+    let B = begun (goal.at.plane_index-requires c).After-sub_height-ratio in
     ((narrow B).0, row_small B _ c.loop-y.auto.y c.loop-y-test.true)
 
-pub filter_row-requires : goal.filter_row-requires
-filter_row-requires c =
-    let B = begun (goal.at.filter_row-requires c).After-sub_height-ratio in
-    let r = row_ready B c.loop-y.y c.loop-y.auto.y c.loop-y-test.true _ c.rows_at-offsets.ensures _ c.plane_index-from.ensures in
-    (r.0, r.1, r.2, r.3, r.4, r.5, c.requires.numbers, omega (arith, r.6, c.loop-y.invariant.len), r.7, r.8)
+pub chroma_row-requires : goal.chroma_row-requires
+chroma_row-requires c =
+    let B = begun (goal.at.chroma_row-requires c).After-sub_height-ratio in
+    let y = c.loop-y.auto.y in
+    let at = c.plane_index.ensures in
+    let reads = row_reads B c.loop-y.y y c.loop-y-test.true _ c.rows_at-offsets.ensures _ at in
+    let room = row_room_lem B c.loop-y.y y c.loop-y-test.true _ c.rows_at-offsets.ensures _ at in
+    (rw c.chroma_starts.ensures reads, omega (arith, c.extent-n.ensures, c.requires.across.small), omega (arith, room, c.loop-y.invariant.len))
 
 pub loop-y-preserved : goal.loop-y-preserved
 loop-y-preserved c =
     let B = begun (goal.at.loop-y-preserved c).After-sub_height-ratio in
-    let at = c.plane_index-from.ensures in
-    paint_call _ _ c.loop-y.invariant c.filter_row.ensures
+    let at = c.plane_index.ensures in
+    paint_call _ _ c.loop-y.invariant (rw c.chroma_starts.ensures at c.chroma_row.ensures)
     (λ k h t. row_sample_lem B c.loop-y.y c.loop-y.auto.y c.loop-y-test.true _ c.rows_at-offsets.ensures _ at k t)
     (λ k h. rw at (rect_more _ _ _ _ _ (in_plane_lem B) c.loop-y.auto.y k))
 

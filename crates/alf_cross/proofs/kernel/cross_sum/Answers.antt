@@ -112,7 +112,8 @@ cross_tap-s5-requires c =
     let f = c.args.source.now in
     let s = c.args.s in
     tap_ready c.requires (get_or f.coeffs 5 (pos 0)) (f.small.each 5) s.below1 s.right c.requires.below_first (omega arith)
-    (sum-5 at.After-cross_tap-s4 (sum-4 at.After-cross_tap-s3 (sum-3 at.After-cross_tap-s2 (sum-2 at.After-cross_tap-s1 (sum-1 at.After-cross_tap-s0))))) (omega arith)
+    (sum-5 at.After-cross_tap-s4 (sum-4 at.After-cross_tap-s3 (sum-3 at.After-cross_tap-s2
+    (sum-2 at.After-cross_tap-s1 (sum-1 at.After-cross_tap-s0))))) (omega arith)
 
 pub cross_tap-requires : goal.cross_tap-requires
 cross_tap-requires c =
@@ -120,7 +121,8 @@ cross_tap-requires c =
     let f = c.args.source.now in
     let s = c.args.s in
     tap_ready c.requires (get_or f.coeffs 6 (pos 0)) (f.small.each 6) s.below2 s.own (le_refl _) (omega arith)
-    (sum-6 at.After-cross_tap-s5 (sum-5 at.After-cross_tap-s4 (sum-4 at.After-cross_tap-s3 (sum-3 at.After-cross_tap-s2 (sum-2 at.After-cross_tap-s1 (sum-1 at.After-cross_tap-s0)))))) (omega arith)
+    (sum-6 at.After-cross_tap-s5 (sum-5 at.After-cross_tap-s4 (sum-4 at.After-cross_tap-s3
+    (sum-3 at.After-cross_tap-s2 (sum-2 at.After-cross_tap-s1 (sum-1 at.After-cross_tap-s0)))))) (omega arith)
 
 pub returns : goal.returns
 unfolding split_taps split_sum cross_sum
@@ -128,7 +130,8 @@ returns c =
     let at = goal.at.returns c in
     let f = c.args.source.now in
     let s = c.args.s in
-    let so_far = sum-6 at.After-cross_tap-s5 (sum-5 at.After-cross_tap-s4 (sum-4 at.After-cross_tap-s3 (sum-3 at.After-cross_tap-s2 (sum-2 at.After-cross_tap-s1 (sum-1 at.After-cross_tap-s0))))) in
+    let so_far = sum-6 at.After-cross_tap-s5 (sum-5 at.After-cross_tap-s4 (sum-4 at.After-cross_tap-s3
+    (sum-3 at.After-cross_tap-s2 (sum-2 at.After-cross_tap-s1 (sum-1 at.After-cross_tap-s0))))) in
     let all = tap_added c.requires (get_or f.coeffs 6 (pos 0)) (f.small.each 6) s.below2 s.own (le_refl _) (omega arith) so_far
     c.cross_tap.ensures refl c.cross_tap.type_inv in
     (all.is, all.small)

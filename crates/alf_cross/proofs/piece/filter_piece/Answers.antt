@@ -54,7 +54,8 @@ piece_rows-requires c =
       c.requires.0.planes,
       c.requires.1,
       c.requires.2,
-      split_small half (omega arith) (even at.Start) split (copied at.After-copy_piece fits.0) (omega (arith, fits.1, c.split_rows.auto.split)),
+      split_small half (omega arith) (even at.Start) split (copied at.After-copy_piece fits.0)
+          (omega (arith, fits.1, c.split_rows.auto.split)),
     )
 
 pub piece_rows-requires-else-sub_width-eq2 : goal.piece_rows-requires-else-sub_width-eq2
