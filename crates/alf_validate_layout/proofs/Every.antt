@@ -1,6 +1,7 @@
 -- What a chain that tests every entry, every place, or every two neighbours of a list comes to, in the words of `alf_spec`. Assumes
 -- nothing.
-use Rattle.std.proofs.Common.{◌≡◌, refl, sym, ◌∙◌, ap, ℕ, zero, suc, ◌+◌, ◌-◌, ◌<◌, ◌≤◌, Bool, true, false, ◌&&◌, List, [], ◌∷◌, length, get_or, take, drop, fold, arith, add-one, add-zero, sub-one}
+use Rattle.std.proofs.Common.{◌≡◌, refl, sym, ◌∙◌, ap, ℕ, zero, suc, ◌+◌, ◌-◌, ◌<◌, ◌≤◌, Bool, true, false, ◌&&◌, List, [], ◌∷◌, length}
+use Rattle.std.proofs.Common.{get_or, take, drop, fold, arith, add-one, add-zero, sub-one}
 use Rattle.std.specs.List.{list_all, range_with_len}
 use Rattle.std.proofs.Math.Bool.{and-true, and_assoc}
 use Rattle.std.specs.Slice.Iter.{windows_rest, windows_size}
@@ -22,17 +23,9 @@ module _ {A : Type 0} (test : A → Bool) where
   fold_from k true (x ∷ xs) = fold_from (suc k) (test x) xs
   fold_from k false (x ∷ xs) = fold_from (suc k) false xs
 
-  -- a fold that goes on past an entry that fails
+  -- a loop that goes on past an entry that fails
   pub every-from_fold : (xs : List A) → fold (λ b x. b && test x) true xs ≡ every test xs
   every-from_fold xs = fold_from 0 true xs
-
-  all_from : (k : ℕ) (xs : List A) → list_all test xs ≡ every_from k (λ _ x. test x) xs
-  unfolding every_from
-  all_from k [] = refl
-  all_from k (x ∷ xs) = ap (λ b. test x && b) (all_from (suc k) xs)
-
-  pub every-from_all : (xs : List A) → list_all test xs ≡ every test xs
-  every-from_all xs = all_from 0 xs
 
 -- ---- every place
 

@@ -4,7 +4,8 @@ use Rattle.std.proofs.Math.Nat.{mul-le-mul_right, mul_comm, add-mul}
 use Rattle.alf_spec.specs.declared.Grid.{Grid}
 use Rattle.alf_spec.specs.Lists.{within, all_below, every}
 use Rattle.alf_spec.specs.Input.{Layout}
-use Rattle.alf_spec.specs.Faults.{layout_lengths_valid, slice_corner, subpic_corner, corners_in_row, corners_valid, slices_valid, subpictures_valid}
+use Rattle.alf_spec.specs.Faults.{layout_lengths_valid, slice_corner, subpic_corner, corners_in_row, corners_valid, slices_valid}
+use Rattle.alf_spec.specs.Faults.{subpictures_valid}
 use Rattle.alf_spec.proofs.Scans.{every_up_to}
 use Rattle.alf_spec.proofs.Accepted.{table_lengths}
 use Rattle.alf_math.specs.Grids.{GridOf}

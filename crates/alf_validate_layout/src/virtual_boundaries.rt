@@ -4,6 +4,7 @@ ghost use Rattle.alf_spec.specs.Lists.{all_below, every};
 ghost use Rattle.alf_spec.specs.Faults.{virtual_position_valid, apart_at, virtual_list_valid, virtual_boundaries_valid};
 ghost use Rattle.alf_math.specs.Grids.{GridOf};
 
+use crate::entries::every;
 use alf_spec::{Grid, Layout};
 
 // Whether a virtual boundary is a multiple of 8, from 8 to the size less 8.
@@ -17,7 +18,7 @@ fn position_valid(size: u32, position: u16) -> bool
 fn each_position_valid(size: u32, list: &[u16]) -> bool
     ensures { result ≡ every (virtual_position_valid size) list.now }
 {
-    list.iter().all(|position| position_valid(size, *position))
+    every(list, |position| position_valid(size, *position))
 }
 
 // Whether a virtual boundary lies at least a CTB's side after another.
