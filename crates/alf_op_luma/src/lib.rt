@@ -2,58 +2,17 @@
 #![tactic(auto)]
 
 ghost use Rattle.std.specs.Prelude.{length};
-ghost use Rattle.alf_spec.specs.Input.{luma as luma_of, layout_of, luma_input};
-ghost use Rattle.alf_spec.specs.Answers.{number};
+ghost use Rattle.alf_spec.specs.Input.{luma as luma_of, with_output};
+ghost use Rattle.alf_spec.specs.Answers.{number_of};
 ghost use Rattle.alf_spec.specs.Runs.{Ran};
 
 use alf_op_filter::filter_picture;
-use alf_spec::{Answer, Filter, Picture};
+use alf_spec::{Fault, Filter, FilterInput};
 
 // The lowest fault of the input, and the output stays as it was; or the output is the luma plane with each listed CTB whose flag is on
 // filtered. The classes are worked out here.
-pub fn luma(
-    picture: Picture,
-    virtual_columns: &[u16],
-    virtual_rows: &[u16],
-    tile_columns: &[u8],
-    tile_rows: &[u8],
-    slice_map: &[u8],
-    subpic_map: &[u8],
-    subpic_across: &[u8],
-    slice_params: &[u8],
-    bank: &[i16],
-    ctb_params: &[u8],
-    ctb_list: &[u32],
-    fixed_filters: &[i16],
-    fixed_map: &[u8],
-    luma: &[u16],
-    output: &mut [u16],
-) -> Answer
-    ensures { let layout = layout_of picture virtual_columns.now virtual_rows.now tile_columns.now
-        tile_rows.now slice_map.now subpic_map.now subpic_across.now in
-        let input = luma_input layout slice_params.now bank.now ctb_params.now ctb_list.now
-        fixed_filters.now fixed_map.now luma.now
-        (length output.old) in
-        Ran luma_of input (number result) output.old output.new }
+pub fn luma(input: &FilterInput, output: &mut [u16]) -> Result<(), Fault>
+    ensures { Ran luma_of (with_output (length output.old) input.now) (number_of result) output.old output.new }
 {
-    filter_picture(
-        Filter::Luma,
-        picture,
-        virtual_columns,
-        virtual_rows,
-        tile_columns,
-        tile_rows,
-        slice_map,
-        subpic_map,
-        subpic_across,
-        slice_params,
-        bank,
-        ctb_params,
-        ctb_list,
-        fixed_filters,
-        fixed_map,
-        luma,
-        &[],
-        output,
-    )
+    filter_picture(Filter::Luma, input, output)
 }
