@@ -6,7 +6,7 @@ mod offenders;
 
 pub use offenders::{cross_filters_valid, next_offender};
 
-// A cross-component filter of a bank; a component is 0 (Cb) or 1 (Cr).
+// A cross-component filter of a bank; a component is 0 (Cb) or 1 (Cr), and stays a number: 02 has it printed as one.
 #[derive(Clone, Copy)]
 pub struct CrossFilter {
     pub aps: u8,

@@ -14,7 +14,6 @@ fn number_at(bank: &[i16], k: usize) -> i16
 }
 
 // Whether H.266 can send each coefficient of the filter at place n.
-#[tactic(auto, unfolding(crate::specs::Offenders::valid_at, alf_spec::specs::Faults::cross_filter_valid))]
 fn valid_at(bank: &[i16], n: usize) -> bool
     requires { n < 64 }
     ensures { result ≡ valid_at bank.now n }
