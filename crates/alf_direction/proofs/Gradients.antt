@@ -1,6 +1,6 @@
 -- Bounds of what the direction test works out. Assumes nothing.
 use mathlib.Core.Path.{◌≡◌, refl}
-use mathlib.Core.Bool.{Bool, true, false, cond, ◌&&◌}
+use mathlib.Core.Bool.{Bool, true, false, cond}
 use Prim.Native.Nat.{ℕ, ◌+◌, ◌*◌, ◌/◌, ◌%◌, ◌^◌, ◌-◌, ◌≤◌, ◌<◌, min}
 use native.Mathlib.Nat.{mod-eq_of_lt, mul-le-mul, le_of_lt}
 use native.Mathlib.Omega.{arith}
@@ -12,34 +12,11 @@ use Rattle.alf_spec.specs.Lists.{every_from, every}
 use Rattle.alf_spec.specs.Classes.{activity_table, transpose_table, gradient, larger, hv, dd, diagonal, main_gradient, other_gradient, strength}
 use Rattle.alf_spec.specs.Classes.{activity, transpose_idx, filt_idx, class_of_sums}
 use Rattle.alf_spec.specs.Process.{class_number}
-use Rattle.alf_spec.proofs.Tests.{both, cond_either, every-at}
-
--- what the test of four numbers against one limit says
-pub four_below : (n a b c d : ℕ) → ((ltb a n && ltb b n) && (ltb c n && ltb d n)) ≡ true → (a < n) × (b < n) × (c < n) × (d < n)
-four_below n a b c d e =
-    let pairs = both (ltb a n && ltb b n) (ltb c n && ltb d n) e in
-    let first = both (ltb a n) (ltb b n) pairs.0 in
-    let second = both (ltb c n) (ltb d n) pairs.1 in
-    (ltb-true _ _ first.0, ltb-true _ _ first.1, ltb-true _ _ second.0, ltb-true _ _ second.1)
+use Rattle.alf_spec.proofs.Tests.{cond_either, every-at}
 
 -- a shift by up to 3 loses no bit of a sum below 2^18
 pub shift_kept : (n k : ℕ) → n < 2 ^ 18 → k ≤ 8 → n * k % 2 ^ 32 ≡ n * k
 shift_kept n k h l = mod-eq_of_lt (omega (arith, mul-le-mul (le_of_lt h) l))
-
--- a gradient of sums below 2^18, with a direction below 4
-pub record Small (g : Gradient) : Type 0 where
-  pub large : g.large < 2 ^ 18
-  pub small : g.small < 2 ^ 18
-  pub direction : g.direction < 4
-
-module _ (a b x y : ℕ) (ha : a < 2 ^ 18) (hb : b < 2 ^ 18) (hx : x < 4) (hy : y < 4) where
-  pub larger-small : Small (larger a b x y)
-  unfolding larger
-  larger-small = pick (ltb b a)
-    where
-      pick : (t : Bool) → Small (cond t (record { large = a; small = b; direction = x }) (record { large = b; small = a; direction = y }))
-      pick true = record { large = ha; small = hb; direction = hx }
-      pick false = record { large = hb; small = ha; direction = hy }
 
 pub strength-small : (g : Gradient) → strength g < 3
 unfolding strength

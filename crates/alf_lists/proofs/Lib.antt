@@ -2,5 +2,6 @@
 pub mod Overwritten
 pub mod Painted
 pub mod PaintedRects
+pub mod Parts
 pub mod Pasted
 pub mod Regions

@@ -11,9 +11,5 @@ pub fn fill(list: &mut [i16], at: usize, n: usize, v: i16)
     requires { at + n ≤ length list.old }
     ensures { Filled (pos 0) list.old (between at n) (same v) list.new }
 {
-    let mut k: usize = 0;
-    while k < n {
-        list[at + k] = v;
-        k += 1;
-    }
+    list[at..at + n].fill(v);
 }

@@ -1,11 +1,11 @@
 -- Laws of the CTB grid. Assumes nothing.
 use mathlib.Core.Path.{◌≡◌, ◌∙◌}
 use mathlib.Core.Bool.{true}
-use Prim.Native.Nat.{ℕ, ◌+◌, ◌-◌, ◌*◌, ◌/◌, ◌%◌, ◌^◌, ◌≤◌, ◌<◌}
+use Prim.Native.Nat.{ℕ, ◌+◌, ◌-◌, ◌*◌, ◌/◌, ◌%◌, ◌^◌, ◌≤◌, ◌<◌, min}
 use native.Mathlib.Nat.{le_trans, one-mul, mul-le-mul, mod-eq_of_lt, le-div_iff_mul-le, div-lt_iff_lt-mul, mul-le-mul_left}
 use native.Mathlib.Omega.{arith}
 use lib.Dec.{eqb}
-use lib.Pow.{pow-lt, pow_mono}
+use lib.Pow.{pow-lt, pow_mono, pow_pos}
 use Rattle.alf_spec.specs.declared.Picture.{Picture}
 use Rattle.alf_spec.specs.declared.Grid.{Grid}
 use Rattle.alf_spec.specs.Lists.{within}
@@ -19,6 +19,14 @@ use Rattle.alf_math.specs.Grids.{ctbs_along, GridOf}
 -- 1 << n in so many bits
 pub shifted : (n bits : ℕ) → n < bits → (1 * 2 ^ n) % (2 ^ bits) ≡ 2 ^ n
 shifted n bits h = rw one-mul (mod-eq_of_lt (pow-lt h))
+
+-- it is at least 1, and at most 2^12 where n is at most 12
+pub power_bounds : (n : ℕ) → n ≤ 12 → (1 ≤ 2 ^ n) × (2 ^ n ≤ 4096) × (2 * 2 ^ (n - 1) ≤ 4096)
+power_bounds n h = let p : n - 1 ≤ 11 = omega arith in omega (arith, pow_pos n, pow_mono h, pow_mono p)
+
+-- the CTBs along n samples, as code rounds the quotient up
+pub rounded_up : (n s : ℕ) → 0 < s → n / s + min 1 (n % s) ≡ (n + (s - 1)) / s
+rounded_up n s h = grind arith
 
 -- the CTBs along 8 to 4,096 samples
 pub along_bounds : (s n : ℕ) → (32 ≤ s) × (s ≤ 128) → (8 ≤ n) × (n ≤ 4096) → (0 < (n + (s - 1)) / s) × ((n + (s - 1)) / s ≤ 128)

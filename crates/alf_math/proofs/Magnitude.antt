@@ -1,23 +1,21 @@
 -- How large integers can be, so that code can be shown not to overflow: bounds of sums, products, clips and shifts by magnitude, and the
 -- reading of a signed value from its bits. Assumes nothing.
-use mathlib.Core.Path.{◌≡◌, refl, ap, ◌∙◌}
+use mathlib.Core.Path.{◌≡◌, refl, ◌∙◌}
 use mathlib.Core.Bool.{Bool, true, false, cond, true≢false}
 use mathlib.Core.List.{List}
 use Prim.Native.Nat.{ℕ, zero, suc, ◌+◌, ◌-◌, ◌*◌, ◌^◌, ◌≤◌, ◌<◌}
 use native.Mathlib.Nat.{le_refl, lt_of_le_of_lt, mul-le-mul, div-le_self}
 use native.Mathlib.Omega.{arith}
-use borrow.Author.Tests.{ltb-true, ltb-false, le-ltb}
-use lib.Dec.{T, ltb}
+use borrow.Author.Tests.{ltb-false}
+use lib.Dec.{ltb}
 use lib.ListN.{get_or}
 use lib.IntN.{ℤ, pos, negsuc, neg_ℤ, nat_abs, ◌+ℤ◌, ◌-ℤ◌, ◌*ℤ◌}
-use lib.Signed.{mag, lt_z, non_neg, shr_z, mag_shr}
+use lib.Signed.{mag, lt_z, shr_z}
 use mir.Syntax.{Width, w16, w32}
 use mir.Val.{Fits, SFits, hbits, to_z, of_z}
 use mir.Facts.{to_z-of_z, sfits_widen}
-use mir.ValLaws.{sfits_le}
 use Rattle.alf_spec.specs.Lists.{sum_below_ℤ}
-use Rattle.alf_spec.specs.Arithmetic.{clip3, clipped_change, tap, tap_sum}
-use Rattle.alf_math.specs.Integers.{minℤ, maxℤ, ClipRange}
+use Rattle.alf_spec.specs.Arithmetic.{clip3, rounded, clipped_change, tap, tap_sum}
 
 -- ---- magnitudes
 
@@ -57,9 +55,6 @@ mag_abs (negsuc n) = omega arith
 
 pub fits_abs : {w : Width} {z : ℤ} → nat_abs z < 2 ^ hbits w → SFits w z
 fits_abs {w} {z} h = record { sfits = lt_of_le_of_lt (mag_abs z) h }
-
-pub fits_shr : {w : Width} {z : ℤ} (m : ℕ) → SFits w z → SFits w (shr_z z m)
-fits_shr {w} {z} m f = sfits_le (mag_shr z m) f
 
 -- a number cast from an unsigned type
 pub back : (w : Width) (n : ℕ) → n < 2 ^ hbits w → to_z w n ≡ pos n
@@ -108,38 +103,17 @@ abs_clip c v = clip_cases (λ z. nat_abs z ≤ nat_abs c) (neg_ℤ c) c v (omega
 pub abs_clip-within : (b : ℕ) (lo hi v : ℤ) → nat_abs lo ≤ b → nat_abs hi ≤ b → nat_abs v ≤ b → nat_abs (clip3 lo hi v) ≤ b
 abs_clip-within b lo hi v low high inside = clip_cases (λ z. nat_abs z ≤ b) lo hi v low high (λ p q. inside)
 
-between_levels : (m : ℕ) (v : ℤ) → lt_z v (pos 0) ≡ false → lt_z (pos m) v ≡ false → T (non_neg v) × (nat_abs v ≤ m)
-between_levels m (pos n) p q = (tt, ltb-false m n q)
-between_levels m (negsuc n) p q = absurd (true≢false p)
+-- ---- rounding
 
--- a clip is the smaller of v and the upper end, then the larger of that and the lower end, where the lower end is above no number that is
--- not negative
-module _ (low : ℤ) (n : ℕ) (below : (k : ℕ) → lt_z (pos k) low ≡ false) where
-  by_levels : (m : ℕ) (t : Bool) → ltb m n ≡ t → cond (lt_z (cond t (pos m) (pos n)) low) low (cond t (pos m) (pos n)) ≡ cond
-      (ltb n m) (pos n) (pos m)
-  by_levels m true p = rw (below m, le-ltb n m (omega (arith, ltb-true m n p)))
-  by_levels m false p = rw (below n) (equal (ltb n m) refl)
-    where
-      equal : (u : Bool) → ltb n m ≡ u → pos n ≡ cond u (pos n) (pos m)
-      equal true q = refl
-      equal false q = ap pos (omega (arith, ltb-false m n p, ltb-false n m q))
-
-  min_max : (v : ℤ) → maxℤ (minℤ v (pos n)) low ≡ clip3 low (pos n) v
-  unfolding minℤ maxℤ clip3
-  min_max (pos m) = by_levels m (ltb m n) refl ∙ rw (below m)
-  min_max (negsuc m) = refl
-
-above_opposite : (n k : ℕ) → lt_z (pos k) (neg_ℤ (pos n)) ≡ false
-above_opposite zero k = le-ltb k 0 (omega arith)
-above_opposite (suc n) k = refl
-
--- to −c .. c
-pub clip-between : {c : ℤ} → ClipRange c → (v : ℤ) → maxℤ (minℤ v c) (neg_ℤ c) ≡ clip3 (neg_ℤ c) c v
-clip-between {c} h v = rw h.level (min_max (neg_ℤ (pos (nat_abs c))) (nat_abs c) (above_opposite (nat_abs c)) v)
-
--- a sample is not negative, and at most the largest level
-pub clip-level : (m : ℕ) (v : ℤ) → T (non_neg (clip3 (pos 0) (pos m) v)) × (nat_abs (clip3 (pos 0) (pos m) v) ≤ m)
-clip-level m v = clip_cases (λ z. T (non_neg z) × (nat_abs z ≤ m)) (pos 0) (pos m) v (tt, omega arith) (tt, le_refl m) (between_levels m v)
+-- a sample, moved by a rounded sum of taps
+pub moved_fits : (curr : ℕ) (sum : ℤ) (shift : ℕ) → curr < 4096 → nat_abs sum ≤ 2 ^ 30 → SFits w32 (pos curr +ℤ rounded shift sum)
+unfolding rounded
+moved_fits curr sum shift small few = fits_abs (omega (
+  arith,
+  abs_add (pos curr) (shr_z (sum +ℤ pos 64) (2 ^ shift)),
+  abs_shr (sum +ℤ pos 64) (2 ^ shift),
+  abs_add sum (pos 64),
+))
 
 -- ---- taps
 

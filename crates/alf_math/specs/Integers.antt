@@ -1,12 +1,5 @@
--- The smaller and the larger of two integers, as code has them, and what a filter's numbers may be. Assumes nothing.
-use Rattle.std.specs.Prelude.{◌≡◌, cond, ◌≤◌, ℤ, pos, nat_abs}
-use Rattle.std.specs.Int.Signed.{lt_z}
-
-unfoldable pub minℤ : ℤ → ℤ → ℤ
-minℤ a b = cond (lt_z a b) a b
-
-unfoldable pub maxℤ : ℤ → ℤ → ℤ
-maxℤ a b = cond (lt_z a b) b a
+-- What a filter's numbers may be. Assumes nothing.
+use Rattle.std.specs.Prelude.{◌≡◌, ◌≤◌, ℤ, pos, nat_abs}
 
 -- a coefficient is −128 to 127; what overflow needs of it is this
 abbrev pub CoeffRange : ℤ → Type 0

@@ -7,19 +7,25 @@ ghost use Rattle.alf_math.specs.Grids.{GridOf};
 use alf_spec::{Grid, Picture};
 
 // SubWidthC
+#[tactic(auto, unfolding(alf_spec::specs::Geometry::sub_width))]
 pub fn sub_width(picture: Picture) -> u32
     ensures { (result ≡ sub_width picture) × (0 < result) }
 {
-    let format = picture.chroma_format;
-    if (1 <= format) & (format <= 2) { 2 } else { 1 }
+    match picture.chroma_format {
+        1 | 2 => 2,
+        _ => 1,
+    }
 }
 
 // SubHeightC
+#[tactic(auto, unfolding(alf_spec::specs::Geometry::sub_height))]
 pub fn sub_height(picture: Picture) -> u32
     ensures { (result ≡ sub_height picture) × (0 < result) }
 {
-    let format = picture.chroma_format;
-    if format == 1 { 2 } else { 1 }
+    match picture.chroma_format {
+        1 => 2,
+        _ => 1,
+    }
 }
 
 // CtbSizeY
@@ -30,19 +36,11 @@ fn ctb_size(ctb_log2: u8) -> u32
     1 << ctb_log2
 }
 
-// The CTBs along so many samples, the last one whole or not.
-fn along(samples: u32, ctb: u32) -> u32
-    requires { (samples ≤ 4096) × (0 < ctb) × (ctb ≤ 128) }
-    ensures { result ≡ (samples + (ctb - 1)) / ctb }
-{
-    (samples + (ctb - 1)) / ctb
-}
-
 // The place before n along an axis, or n itself at 0.
 pub fn previous(n: u32) -> u32
     ensures { result ≡ pred n }
 {
-    if 0 < n { n - 1 } else { n }
+    n.saturating_sub(1)
 }
 
 // CtbSizeY, PicWidthInCtbsY and PicHeightInCtbsY
@@ -53,7 +51,7 @@ pub fn grid(picture: Picture) -> Grid
     let ctb = ctb_size(picture.ctb_log2);
     Grid {
         ctb: ctb,
-        columns: along(picture.width, ctb),
-        rows: along(picture.height, ctb),
+        columns: picture.width.div_ceil(ctb),
+        rows: picture.height.div_ceil(ctb),
     }
 }

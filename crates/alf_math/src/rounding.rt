@@ -5,6 +5,7 @@ ghost use Rattle.alf_spec.specs.Arithmetic.{rounded as rounded_by, filtered as f
 use crate::clipping::clip_sample;
 
 // ( sum + 64 ) >> shift, rounded toward minus infinity
+#[tactic(auto, using(crate::proofs::Magnitude::abs_add), unfolding(alf_spec::specs::Arithmetic::rounded))]
 pub fn rounded(sum: i32, shift: u32) -> i32
     requires { (nat_abs sum ≤ 2 ^ 30) × (shift < 32) }
     ensures { result ≡ rounded_by shift sum }

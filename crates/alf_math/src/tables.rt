@@ -11,6 +11,7 @@ const TAP_ORDER: [[u8; 12]; 4] = [
 ];
 
 // Which coefficient and clip tap j uses.
+#[tactic(auto, using(alf_spec::proofs::TapOrder::each_below), unfolding(alf_spec::specs::Luma::tap_order))]
 pub fn tap_order(transpose: usize, j: usize) -> usize
     requires { (transpose < 4) × (j < 12) }
     ensures { (result ≡ tap_order transpose j) × (result < 12) }

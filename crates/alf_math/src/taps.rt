@@ -2,26 +2,14 @@
 // holds eight of them; the product is 32 bits.
 ghost use Rattle.std.specs.Prelude.{◌≡◌, ◌<◌};
 ghost use Rattle.alf_spec.specs.Arithmetic.{clipped_change, tap as tap_of};
-ghost use Rattle.alf_math.specs.Integers.{minℤ, maxℤ, CoeffRange, ClipRange};
-
-fn min16(a: i16, b: i16) -> i16
-    ensures { result ≡ minℤ a b }
-{
-    if a < b { a } else { b }
-}
-
-fn max16(a: i16, b: i16) -> i16
-    ensures { result ≡ maxℤ a b }
-{
-    if a < b { b } else { a }
-}
+ghost use Rattle.alf_math.specs.Integers.{CoeffRange, ClipRange};
 
 // How far a sample is from the current one, clipped to −c .. c: a minimum and a maximum, each one instruction of a vector.
 fn clipped_change(curr: u16, c: i16, sample: u16) -> i16
     requires { (curr < 4096) × (ClipRange c) × (sample < 4096) }
     ensures { result ≡ clipped_change curr c sample }
 {
-    max16(min16(sample as i16 - curr as i16, c), -c)
+    (sample as i16 - curr as i16).min(c).max(-c)
 }
 
 pub fn tap(curr: u16, f: i16, c: i16, plus: u16, minus: u16) -> i32

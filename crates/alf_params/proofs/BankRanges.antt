@@ -1,13 +1,13 @@
 -- The range of each number of the bank, by its number in an APS. Assumes nothing.
-use mathlib.Core.Path.{◌≡◌, refl}
-use mathlib.Core.Bool.{Bool, true, false}
+use mathlib.Core.Path.{◌≡◌}
+use mathlib.Core.Bool.{true, false}
 use mathlib.Core.List.{List}
 use Prim.Native.Nat.{ℕ, ◌+◌, ◌-◌, ◌*◌, ◌/◌, ◌%◌, ◌≤◌, ◌<◌}
 use native.Mathlib.Nat.{mul_comm}
 use native.Mathlib.Omega.{arith}
 use borrow.Author.Tests.{lt-ltb, le-ltb, le-leb, lt-leb}
 use lib.Arith.{digits_div, digits_mod}
-use lib.IntN.{ℤ, pos, nat_abs}
+use lib.IntN.{ℤ, pos}
 use lib.ListN.{get_or}
 use Rattle.alf_spec.specs.Faults.{is_clip}
 use Rattle.alf_math.specs.Integers.{CoeffRange, ClipRange}
@@ -77,11 +77,3 @@ module _ {bank : List ℤ} (b : BankNumbers bank) (aps : ℕ) where
 
   pub cross_coefficient : (p : ℕ) → 696 ≤ p → p < 752 → CoeffRange (get_or bank (752 * aps + p) (pos 0))
   cross_coefficient p l h = coefficient p h (cross_test p l)
-
--- coefficients and clips alike fit 16 bits
-pub bank-small : {bank : List ℤ} → BankNumbers bank → (n : ℕ) → nat_abs (get_or bank n (pos 0)) ≤ 4096
-bank-small {bank} b n = either (is_clip (n % 752)) refl
-  where
-    either : (t : Bool) → is_clip (n % 752) ≡ t → nat_abs (get_or bank n (pos 0)) ≤ 4096
-    either true e = (b.clips n e).small
-    either false e = omega (arith, b.coefficients n e)

@@ -2,19 +2,32 @@
 ghost use Rattle.std.specs.Prelude.{◌≡◌, ◌+◌, ◌*◌, ◌≤◌, ◌<◌, length, get_or};
 ghost use Rattle.alf_params.specs.Tables.{slice_number, ctb_number};
 
+use alf_spec::{FilterInput, Layout};
+
 // Number n of the eight of the CTB at address k.
-pub(crate) fn ctb_number(ctb_params: &[u8], k: usize, n: usize) -> u8
-    requires { (8 * k + 8 ≤ length ctb_params.now) × (n < 8) }
-    ensures { result ≡ ctb_number ctb_params.now k n }
+pub(crate) fn ctb_number(input: &FilterInput, k: usize, n: usize) -> u8
+    requires { (8 * k + 8 ≤ length input.now.ctb_params) × (n < 8) }
+    ensures { result ≡ ctb_number input.now.ctb_params k n }
 {
-    ctb_params[8 * k + n]
+    let numbers = input.ctb_params;
+    numbers[8 * k + n]
+}
+
+// The slice of the CTB at address k. A function of its own, since the prover follows one lent record at a time.
+fn slice_at(layout: &Layout, k: usize) -> u8
+    requires { k < length layout.now.slice_map }
+    ensures { result ≡ get_or layout.now.slice_map k 0 }
+{
+    layout.slice_map[k]
 }
 
 // Number n of the eleven of the slice of the CTB at address k.
-pub(crate) fn slice_number(slice_map: &[u8], slice_params: &[u8], k: usize, n: usize) -> u8
-    requires { (k < length slice_map.now) × (11 * get_or slice_map.now k 0 + 11 ≤ length slice_params.now) × (n < 11) }
-    ensures { result ≡ slice_number slice_map.now slice_params.now k n }
+pub(crate) fn slice_number(input: &FilterInput, k: usize, n: usize) -> u8
+    requires { (k < length input.now.layout.slice_map) × (11 * get_or input.now.layout.slice_map k 0 + 11 ≤ length input.now.slice_params)
+        × (n < 11) }
+    ensures { result ≡ slice_number input.now.layout.slice_map input.now.slice_params k n }
 {
-    let slice = slice_map[k] as usize;
-    slice_params[11 * slice + n]
+    let slice = slice_at(&input.layout, k) as usize;
+    let numbers = input.slice_params;
+    numbers[11 * slice + n]
 }

@@ -1,9 +1,82 @@
-// What the example programs print with: text, numbers, planes, class maps and answers. Each function takes the runtime that it prints to
-// first, and answers with the error of the first write that fails.
+// What the example programs print beside single values, which they print with `print!`: planes, class maps and answers. Each function takes
+// the runtime that it prints to first, and answers with the error of the first write that fails.
 #![tactic(auto)]
 
-use alf_spec::{ClipCause, Isolation};
-use std::io;
+use alf_spec::{ClipCause, Fault, Isolation};
+use std::{fmt, io};
+
+// What was asked, and the number of the answer.
+pub fn print_outcome(rt: &impl Print, asked: &str, number: u8) -> io::Result<()> {
+    println!(rt; "{asked}: answer {number}")
+}
+
+// What was asked of the isolation test, the number of its answer, and what it says.
+pub fn print_isolated(
+    rt: &impl Print,
+    asked: &str,
+    number: u8,
+    answer: Result<bool, Fault>,
+) -> io::Result<()> {
+    let says = match answer {
+        Ok(true) => ", isolated",
+        Ok(false) => ", not isolated",
+        Err(_) => "",
+    };
+    println!(rt; "{asked}: answer {number}{says}")
+}
+
+// A sample as a plane shows it, four characters wide.
+#[derive(Drop)]
+struct Sample(u16);
+
+impl fmt::Display for Sample {
+    fn fmt<W: fmt::Write>(&self, f: &mut fmt::Formatter<W>) -> fmt::Result {
+        let level = self.0;
+        write!(f, " {level:>3}")
+    }
+}
+
+// A class and its transpose as a map shows them, such as 20:2.
+#[derive(Drop)]
+struct ClassNumber(u8);
+
+impl fmt::Display for ClassNumber {
+    fn fmt<W: fmt::Write>(&self, f: &mut fmt::Formatter<W>) -> fmt::Result {
+        let class = self.0 % 32;
+        let transpose = self.0 / 32;
+        write!(f, " {class:>2}:{transpose}")
+    }
+}
+
+// The entries of a list as they are shown, so many a row. A row that is not whole has no end.
+fn print_rows<T: Copy, D: fmt::Display + Drop, F: Fn(T) -> D>(
+    rt: &impl Print,
+    list: &[T],
+    columns: usize,
+    shown: F,
+) -> io::Result<()>
+    requires { F.IsAlwaysCallable shown }
+{
+    for (k, entry) in list.iter().enumerate() {
+        rt.print(shown(*entry))?;
+        if columns > 0 && k % columns == columns - 1 {
+            println!(rt; "")?;
+        }
+    }
+    Ok(())
+}
+
+// A plane, so many samples a row.
+pub fn print_plane(rt: &impl Print, plane: &[u16], columns: usize) -> io::Result<()> {
+    print_rows(rt, plane, columns, |sample| Sample(sample))
+}
+
+// A class map, so many blocks a row.
+pub fn print_map(rt: &impl Print, map: &[u8], columns: usize) -> io::Result<()> {
+    print_rows(rt, map, columns, |number| ClassNumber(number))
+}
+
+// ---- for the callers that are not moved yet: `print!` says each of these, and the two functions at the top
 
 pub fn print(rt: &impl Print, text: &[u8]) -> io::Result<()> {
     rt.write_all(text)
@@ -13,22 +86,21 @@ pub fn print_number(rt: &impl Print, n: u32) -> io::Result<()> {
     rt.print(n)
 }
 
+// A number with its sign.
+pub fn print_integer(rt: &impl Print, n: i32) -> io::Result<()> {
+    rt.print(n)
+}
+
 // A text, and a number behind it.
 pub fn print_labelled(rt: &impl Print, text: &[u8], n: u32) -> io::Result<()> {
     print(rt, text)?;
-    print_number(rt, n)
-}
-
-// A number with its sign.
-pub fn print_integer(rt: &impl Print, n: i32) -> io::Result<()> {
     rt.print(n)
 }
 
 // What was asked, and the number of the answer.
 pub fn print_answer(rt: &impl Print, text: &[u8], number: u8) -> io::Result<()> {
     print(rt, text)?;
-    print_labelled(rt, b": answer ", number as u32)?;
-    print(rt, b"\n")
+    println!(rt; ": answer {number}")
 }
 
 // What was asked of the isolation test, the number of its answer, and what it says.
@@ -39,69 +111,14 @@ pub fn print_isolation(
     answer: Isolation,
 ) -> io::Result<()> {
     print(rt, text)?;
-    print_labelled(rt, b": answer ", number as u32)?;
     match answer {
-        Isolation::Isolated => print(rt, b", isolated\n"),
-        Isolation::NotIsolated => print(rt, b", not isolated\n"),
-        Isolation::Rejected(fault) => print(rt, b"\n"),
+        Isolation::Isolated => print_isolated(rt, "", number, Ok(true)),
+        Isolation::NotIsolated => print_isolated(rt, "", number, Ok(false)),
+        Isolation::Rejected(fault) => print_isolated(rt, "", number, Err(fault)),
     }
 }
 
 // A cause by its name.
 pub fn print_cause(rt: &impl Print, cause: ClipCause) -> io::Result<()> {
-    match cause {
-        ClipCause::Open => print(rt, b"open"),
-        ClipCause::LineBufferBoundary => print(rt, b"line-buffer boundary"),
-        ClipCause::VirtualBoundary => print(rt, b"virtual boundary"),
-        ClipCause::Tile => print(rt, b"tile"),
-        ClipCause::Slice => print(rt, b"slice"),
-        ClipCause::Subpicture => print(rt, b"subpicture"),
-    }
-}
-
-// A new line after the element at index k, where it is the last of its row.
-fn end_row(rt: &impl Print, k: usize, columns: usize) -> io::Result<()> {
-    if columns > 0 && k % columns == columns - 1 {
-        print(rt, b"\n")?;
-    }
-    Ok(())
-}
-
-// A sample, four characters wide.
-fn print_sample(rt: &impl Print, sample: u16) -> io::Result<()> {
-    if sample < 100 {
-        print(rt, b" ")?;
-    }
-    if sample < 10 {
-        print(rt, b" ")?;
-    }
-    print_labelled(rt, b" ", sample as u32)
-}
-
-// A plane, so many samples a row.
-pub fn print_plane(rt: &impl Print, plane: &[u16], columns: usize) -> io::Result<()> {
-    for (k, sample) in plane.iter().enumerate() {
-        print_sample(rt, *sample)?;
-        end_row(rt, k, columns)?;
-    }
-    Ok(())
-}
-
-// A class and its transpose, such as 20:2.
-fn print_class(rt: &impl Print, n: u8) -> io::Result<()> {
-    let class = n % 32;
-    if class < 10 {
-        print(rt, b" ")?;
-    }
-    print_labelled(rt, b" ", class as u32)?;
-    print_labelled(rt, b":", (n / 32) as u32)
-}
-
-// A class map, so many blocks a row.
-pub fn print_map(rt: &impl Print, map: &[u8], columns: usize) -> io::Result<()> {
-    for (k, n) in map.iter().enumerate() {
-        print_class(rt, *n)?;
-        end_row(rt, k, columns)?;
-    }
-    Ok(())
+    rt.print(cause)
 }

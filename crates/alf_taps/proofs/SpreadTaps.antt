@@ -7,13 +7,21 @@ use native.Mathlib.Omega.{arith}
 use lib.IntN.{ℤ, nat_abs, ◌+ℤ◌}
 use lib.ListN.{length, get_or}
 use lib.Signed.{mag}
-use mir.Syntax.{w32}
-use mir.Val.{hbits, to_z, of_z}
+use mir.Syntax.{w16, w32}
+use mir.Val.{SFits, hbits, to_z, of_z}
 use Rattle.alf_spec.specs.Arithmetic.{tap, tap_sum}
 use Rattle.alf_spec.proofs.Lists.{sum_sameℤ}
-use Rattle.alf_math.proofs.Magnitude.{abs_tap, abs_tap_sum}
+use Rattle.alf_math.specs.Integers.{CoeffRange, ClipRange}
+use Rattle.alf_math.proofs.Magnitude.{abs_tap, abs_tap_sum, fits_abs}
 use Rattle.alf_math.proofs.TapByTap.{Summed, summed_more}
 use Rattle.alf_taps.specs.Spread.{clips_at, spread_coeff, spread_clip, TapNumbers}
+
+-- a coefficient and a clip fit 16 bits
+pub coefficient_fits : (z : ℤ) → CoeffRange z → SFits w16 z
+coefficient_fits z h = fits_abs (omega (arith, h))
+
+pub clip_fits : {z : ℤ} → ClipRange z → SFits w16 z
+clip_fits h = fits_abs (omega (arith, h.small))
 
 -- what a kernel has of the sample `curr` at column x: the taps' numbers are in their ranges, and the first `end` entries of the copy are
 -- samples

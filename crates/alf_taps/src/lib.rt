@@ -18,7 +18,8 @@ pub const CLIPS: usize = 1536;
 pub const SPREAD: usize = 3072;
 
 // A sum with one tap more, of the sample at column x: its two neighbours stand in the rows of the copy that begin at `plus` and at `minus`,
-// in columns i and j from x on; its coefficient in the row that begins at `at`.
+// in columns i and j from x on; its coefficient in the row that begins at `at`. The places are numbers of their own: in a call the rows are
+// variables and the columns literals, and a struct would only name them once more.
 pub fn add_tap(
     sum: i32,
     copy: &[u16],

@@ -2,6 +2,7 @@
 #![tactic(auto)]
 
 pub mod drawing;
+mod filling;
 pub mod layout;
 pub mod tables;
 pub mod textures;

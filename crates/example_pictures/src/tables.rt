@@ -1,4 +1,5 @@
 // The filters and the parameters that the picture is filtered with.
+use crate::filling::fill_by;
 
 const COEFFICIENTS: [i16; 7] = [9, -4, 6, 0, 12, -7, 3];
 
@@ -34,27 +35,15 @@ fn bank_entry(k: usize) -> i16 {
 }
 
 pub fn fill_bank(bank: &mut [i16]) {
-    let mut k = 0;
-    while k < bank.len() {
-        bank[k] = bank_entry(k);
-        k += 1;
-    }
+    fill_by(bank, bank_entry);
 }
 
 pub fn fill_fixed_filters(filters: &mut [i16]) {
-    let mut k = 0;
-    while k < filters.len() {
-        filters[k] = coefficient(k);
-        k += 1;
-    }
+    fill_by(filters, coefficient);
 }
 
 pub fn fill_fixed_map(map: &mut [u8]) {
-    let mut k = 0;
-    while k < map.len() {
-        map[k] = (k % 64) as u8;
-        k += 1;
-    }
+    fill_by(map, |k| (k % 64) as u8);
 }
 
 // Of each slice: how many luma APSs; seven of them; the chroma one; the cross-component ones of Cb and Cr.

@@ -3,7 +3,6 @@ ghost use Rattle.std.specs.Prelude.{◌^◌, ◌≤◌, ◌<◌};
 
 use alf_direction::direction::class_of_sums;
 use alf_direction::products::product_less;
-use alf_print::{print, print_number};
 use alf_spec::Sums;
 use std::io;
 
@@ -11,14 +10,7 @@ use std::io;
 pub fn show_class(rt: &impl Print, v: u32, h: u32, d0: u32, d1: u32, depth: u32) -> io::Result<()>
     requires { (v < 2 ^ 18) × (h < 2 ^ 18) × (d0 < 2 ^ 18) × (d1 < 2 ^ 18) × (8 ≤ depth) × (depth ≤ 12) }
 {
-    print(rt, b"  V ")?;
-    print_number(rt, v)?;
-    print(rt, b"  H ")?;
-    print_number(rt, h)?;
-    print(rt, b"  D0 ")?;
-    print_number(rt, d0)?;
-    print(rt, b"  D1 ")?;
-    print_number(rt, d1)?;
+    print!(rt; "  V {v}  H {h}  D0 {d0}  D1 {d1}")?;
     let class = class_of_sums(
         Sums {
             v: v,
@@ -29,23 +21,23 @@ pub fn show_class(rt: &impl Print, v: u32, h: u32, d0: u32, d1: u32, depth: u32)
         2,
         depth,
     );
-    print(rt, b" -> class ")?;
-    print_number(rt, class.filter)?;
-    print(rt, b", transpose ")?;
-    print_number(rt, class.transpose)
+    let filter = class.filter;
+    let transpose = class.transpose;
+    print!(rt; " -> class {filter}, transpose {transpose}")
 }
 
 // Large sums at depth 12, and a comparison of products of theirs.
 fn show_large(rt: &impl Print, v: u32, h: u32, d0: u32, d1: u32) -> io::Result<()>
     requires { (v < 2 ^ 18) × (h < 2 ^ 18) × (d0 < 2 ^ 18) × (d1 < 2 ^ 18) }
 {
-    print(rt, b"   ")?;
+    print!(rt; "   ")?;
     show_class(rt, v, h, d0, d1, 12)?;
-    if product_less(v, h, d0, d1) {
-        print(rt, b", V * H < D0 * D1: yes\n")
+    let less = if product_less(v, h, d0, d1) {
+        "yes"
     } else {
-        print(rt, b", V * H < D0 * D1: no\n")
-    }
+        "no"
+    };
+    println!(rt; ", V * H < D0 * D1: {less}")
 }
 
 // Sums that are less by one, each in turn.

@@ -11,15 +11,11 @@ ghost use Rattle.alf_math.specs.Integers.{ClipRange};
 use alf_direction::direction::activity;
 use alf_math::rounding::{filtered, rounded};
 use alf_math::taps::tap;
-use alf_print::{print, print_integer, print_number};
 use std::io;
 
 // A number, and what comes of it.
 fn show(rt: &impl Print, n: i32, r: i32) -> io::Result<()> {
-    print(rt, b"  ")?;
-    print_integer(rt, n)?;
-    print(rt, b" -> ")?;
-    print_integer(rt, r)
+    print!(rt; "  {n} -> {r}")
 }
 
 // A sum, rounded.
@@ -33,10 +29,8 @@ fn show_rounded(rt: &impl Print, sum: i32, shift: u32) -> io::Result<()>
 fn show_activity(rt: &impl Print, total: u32) -> io::Result<()>
     requires { total < 2 ^ 19 }
 {
-    print(rt, b"  ")?;
-    print_number(rt, total)?;
-    print(rt, b" -> ")?;
-    print_number(rt, activity(total, 2, 10))
+    let level = activity(total, 2, 10);
+    print!(rt; "  {total} -> {level}")
 }
 
 // A clip, and sample 10 filtered with it: right 14, left 10, coefficient 11 alone set, to 64.
@@ -51,47 +45,47 @@ fn show_filtered(rt: &impl Print, c: i16) -> io::Result<()>
 }
 
 fn main(rt: HostRuntime) -> io::Result<()> {
-    print(&rt, b"P1   rounded by shift 7:")?;
+    print!(rt; "P1   rounded by shift 7:")?;
     show_rounded(&rt, -65, 7)?;
     show_rounded(&rt, -64, 7)?;
     show_rounded(&rt, 63, 7)?;
     show_rounded(&rt, 64, 7)?;
-    print(&rt, b"\nP2   rounded by shift 10:")?;
+    print!(rt; "\nP2   rounded by shift 10:")?;
     show_rounded(&rt, 959, 10)?;
     show_rounded(&rt, 960, 10)?;
-    print(&rt, b"\nP3 ")?;
+    print!(rt; "\nP3 ")?;
     classes::show_class(&rt, 0, 0, 0, 0, 8)?;
-    print(&rt, b"\nP4 ")?;
+    print!(rt; "\nP4 ")?;
     classes::show_class(&rt, 10, 2, 4, 4, 8)?;
-    print(&rt, b"\nP5 ")?;
+    print!(rt; "\nP5 ")?;
     classes::show_class(&rt, 9, 2, 4, 4, 8)?;
-    print(&rt, b"\nP6 ")?;
+    print!(rt; "\nP6 ")?;
     classes::show_class(&rt, 3, 3, 8, 1, 8)?;
-    print(&rt, b"\nP7 ")?;
+    print!(rt; "\nP7 ")?;
     classes::show_class(&rt, 5, 0, 7, 0, 8)?;
-    print(&rt, b"\nP8   activity of V + H, depth 10:")?;
+    print!(rt; "\nP8   activity of V + H, depth 10:")?;
     show_activity(&rt, 3839)?;
     show_activity(&rt, 3840)?;
-    print(&rt, b"\n     largest sums, depth 12:\n")?;
+    print!(rt; "\n     largest sums, depth 12:\n")?;
     classes::show_largest(&rt)?;
     classes::show_ties(&rt)?;
-    print(&rt, b"P9   clip positions, CTB of 32:")?;
+    print!(rt; "P9   clip positions, CTB of 32:")?;
     positions::show_below(&rt, 4, 23)?;
     positions::show_below(&rt, 4, 24)?;
     positions::show_above(&rt, 4, 28)?;
-    print(&rt, b"\n     for chroma of full height:")?;
+    print!(rt; "\n     for chroma of full height:")?;
     positions::show_below(&rt, 2, 25)?;
     positions::show_below(&rt, 2, 26)?;
     positions::show_above(&rt, 2, 29)?;
     positions::show_above(&rt, 2, 30)?;
-    print(&rt, b"\nP10  read from the CTB at (32,32):")?;
+    print!(rt; "\nP10  read from the CTB at (32,32):")?;
     positions::show_corner(&rt)?;
-    print(&rt, b"\nP11  line rule of the CTB at row 32:")?;
+    print!(rt; "\nP11  line rule of the CTB at row 32:")?;
     positions::show_line_rule(&rt, 64)?;
     positions::show_line_rule(&rt, 56)?;
-    print(&rt, b"\nP12  filtered sample by clip:")?;
+    print!(rt; "\nP12  filtered sample by clip:")?;
     show_filtered(&rt, 256)?;
     show_filtered(&rt, 3)?;
     show_filtered(&rt, 2)?;
-    print(&rt, b"\n")
+    print!(rt; "\n")
 }

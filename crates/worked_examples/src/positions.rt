@@ -6,21 +6,17 @@ use alf_boundary::sides::sides_of;
 use alf_math::grid::grid;
 use alf_pieces::copies::{copy_piece, extent};
 use alf_pieces::pieces::piece_at;
-use alf_print::{print, print_cause, print_number};
 use alf_spec::{ClipCause, Ctb, Picture};
 use std::io;
 
 fn show_clip(rt: &impl Print, y: u32, found: FoundClip) -> io::Result<()> {
-    print_number(rt, y)?;
     match found {
         FoundClip::At(clip) => {
-            print(rt, b" -> ")?;
-            print_number(rt, clip.position)?;
-            print(rt, b", ")?;
+            let position = clip.position;
             let cause = clip.cause;
-            print_cause(rt, cause)
+            print!(rt; "{y} -> {position}, {cause}")
         }
-        FoundClip::Nowhere => print(rt, b" -> none"),
+        FoundClip::Nowhere => print!(rt; "{y} -> none"),
     }
 }
 
@@ -46,7 +42,7 @@ fn show_beside(rt: &impl Print, after: bool, line: u32, y: u32) -> io::Result<()
 pub fn show_below(rt: &impl Print, line: u32, y: u32) -> io::Result<()>
     requires { (line ≤ 4) × (y ≤ 31) }
 {
-    print(rt, b"  below ")?;
+    print!(rt; "  below ")?;
     show_beside(rt, true, line, y)
 }
 
@@ -54,7 +50,7 @@ pub fn show_below(rt: &impl Print, line: u32, y: u32) -> io::Result<()>
 pub fn show_above(rt: &impl Print, line: u32, y: u32) -> io::Result<()>
     requires { (line ≤ 4) × (y ≤ 31) }
 {
-    print(rt, b"  above ")?;
+    print!(rt; "  above ")?;
     show_beside(rt, false, line, y)
 }
 
@@ -67,11 +63,9 @@ fn number_samples(plane: &mut [u16]) {
 
 // The position of the sample with this index, 40 in a row.
 fn show_position(rt: &impl Print, index: u16) -> io::Result<()> {
-    print(rt, b"(")?;
-    print_number(rt, (index % 40) as u32)?;
-    print(rt, b",")?;
-    print_number(rt, (index / 40) as u32)?;
-    print(rt, b")")
+    let x = index % 40;
+    let y = index / 40;
+    print!(rt; "({x},{y})")
 }
 
 // Two by two CTBs in 40 by 40 samples, the upper left one of another slice, the slice switch off: what stands for (31,31) at the sample
@@ -121,17 +115,16 @@ pub fn show_corner(rt: &impl Print) -> io::Result<()> {
     copy_piece(&plane, 40, columns, rows, sides, &mut copy);
     // the margin is of 3 samples, so that the one up-left of the piece stands at column 2 and row 2
     let pitch = extent(columns) + 6;
-    print(rt, b"  (31,31) -> ")?;
+    print!(rt; "  (31,31) -> ")?;
     show_position(rt, copy[2 * pitch + 2])
 }
 
 // Whether the line rule is on for the CTB at row 32 of a picture of this height.
 pub fn show_line_rule(rt: &impl Print, height: u32) -> io::Result<()> {
-    print(rt, b"  height ")?;
-    print_number(rt, height)?;
-    if line_rule(height, 32, 32) {
-        print(rt, b" -> on")
+    let rule = if line_rule(height, 32, 32) {
+        "on"
     } else {
-        print(rt, b" -> off")
-    }
+        "off"
+    };
+    print!(rt; "  height {height} -> {rule}")
 }

@@ -1,0 +1,8 @@
+-- What the clamp gives is a level.
+use Rattle.std.proofs.Common.{rules, arith}
+use mir.Syntax.{w32}
+use Rattle.alf_math.proofs.Clips.{level_clipped}
+use Rattle.alf_math.proofs.clipping.clip_sample.Goals as goal
+
+pub returns : goal.returns
+returns c = level_clipped w32 _ (omega arith) c.ranges.v (search rules) c.clamp.ensures.value c.top_level.ensures
