@@ -2,7 +2,7 @@
 -- nothing.
 use mathlib.Core.Path.{◌≡◌, refl}
 use mathlib.Core.List.{List}
-use Prim.Native.Nat.{ℕ, ◌*◌, ◌/◌, ◌%◌, ◌≤◌, ◌<◌}
+use Prim.Native.Nat.{ℕ, ◌*◌, ◌/◌, ◌%◌, ◌<◌}
 use native.Mathlib.Nat.{mul_comm, mul-le-mul_right, div-one}
 use native.Mathlib.Omega.{arith}
 use Rattle.alf_spec.specs.declared.Picture.{Picture}
@@ -15,29 +15,21 @@ use Rattle.alf_spec.proofs.Accepted.{AcceptedLayout, accepted, lists_valid, luma
 use Rattle.alf_math.specs.Grids.{GridOf}
 use Rattle.alf_math.proofs.Grids.{width_bounds, height_bounds, sample_bound}
 use Rattle.alf_math.proofs.CtbAddresses.{ctb_in_picture}
-use Rattle.alf_boundary.specs.Clips.{column_axis, row_axis}
 use Rattle.alf_pieces.specs.declared.pieces.Piece.{Piece}
 use Rattle.alf_pieces.specs.Pieces.{BlockPiece}
-use Rattle.alf_pieces.specs.Walks.{Along}
-use Rattle.alf_pieces.specs.Copies.{area}
+use Rattle.alf_pieces.specs.Walks.{axes_through, AlongAxes}
 use Rattle.alf_pieces.proofs.PieceWalk.{walk_luma, columns_along, rows_along}
 use Rattle.alf_classify.specs.PieceClasses.{MapRoom}
 use Rattle.alf_class_map.specs.ClassWork.{ClassWork}
 use Rattle.alf_classify.proofs.PieceRows.{blocks}
 
--- lists of the same lengths
-pub work_same : {p : Picture} {g : Grid} {luma : List ℕ} {copy copy' differences differences' map map' : ℕ}
-    → ClassWork p g luma copy differences map
-    → copy' ≡ copy → differences' ≡ differences → map' ≡ map → ClassWork p g luma copy' differences' map'
-work_same w e f h = rw (e, f, h) w
-
 -- the picture's own map has room for a piece of it
-pub own_map : {p : Picture} {g : Grid} {luma : List ℕ} {copy differences map : ℕ} {columns rows : Piece}
-    → ClassWork p g luma copy differences map
+pub own_map : {p : Picture} {g : Grid} {luma : List ℕ} {map : ℕ} {columns rows : Piece}
+    → ClassWork p g luma map
     → BlockPiece p.width columns → BlockPiece p.height rows → MapRoom columns rows (p.width / 4) (columns.start / 4)
     (rows.start / 4) map
 own_map {p} work across down =
-    let r = work.rooms.picture in
+    let r = work.picture in
     let a = blocks across in
     let d = blocks down in
     record {
@@ -59,20 +51,15 @@ module _ (l : Layout) (luma : List ℕ) (n : ℕ) (ok : fault classes (classes_i
   pub map-length : n ≡ plane_length (class_plane l)
   map-length = output_length_lem classes (classes_input l luma n) ok
 
-  module _ {g : Grid} (grid : GridOf l.picture g) {copy differences : ℕ} (copy_room : area ≤ copy)
-      (difference_room : 4 * area ≤ differences) where
-    class_work : ClassWork l.picture g luma copy differences n
+  module _ {g : Grid} (grid : GridOf l.picture g) where
+    class_work : ClassWork l.picture g luma n
     unfolding plane_of
     class_work = record {
-      rooms = record {
-        picture = record {
-          grid = grid;
-          sizes = accepted-classes.sizes;
-          ctb_size = accepted-classes.ctb_size;
-          depth = accepted-classes.bit_depth;
-        };
-        copy_room = copy_room;
-        difference_room = difference_room;
+      picture = record {
+        grid = grid;
+        sizes = accepted-classes.sizes;
+        ctb_size = accepted-classes.ctb_size;
+        depth = accepted-classes.bit_depth;
       };
       map_length = map-length;
       luma_length = rw (div-one l.picture.width, div-one l.picture.height) at (luma-length classes (classes_input l luma n) ok refl);
@@ -80,16 +67,14 @@ module _ (l : Layout) (luma : List ℕ) (n : ℕ) (ok : fault classes (classes_i
     }
 
     -- for the CTB at address k, whose sides are these
-    pub ctb-given : (s : Sides) (k : ℕ) → k < g.columns * g.rows → (ClassWork l.picture g luma copy differences n)
-        × Along (column_axis l.picture g s (k % g.columns)) l.virtual_columns × (l.picture.width ≡ l.picture.width)
-        × Along (row_axis l.picture g s 4 (k / g.columns)) l.virtual_rows × (l.picture.height ≡ l.picture.height)
+    pub ctb-given : (s : Sides) (k : ℕ) → k < g.columns * g.rows → let x = axes_through l g s 4 k in (ClassWork l.picture g luma n)
+        × (AlongAxes x) × (x.columns.size ≡ l.picture.width) × (x.rows.size ≡ l.picture.height)
     ctb-given s k below =
         let lists = lists_valid l accepted-classes.virtual_boundaries in
         let begins = ctb_in_picture grid k below in
-        let picture = class_work.rooms.picture in (
+        let picture = class_work.picture in (
           class_work,
-          columns_along picture s (k % g.columns) lists.0 begins.0,
+          (columns_along picture s (k % g.columns) lists.0 begins.0, rows_along picture s (k / g.columns) walk_luma lists.1 begins.1),
           refl,
-          rows_along picture s (k / g.columns) walk_luma lists.1 begins.1,
           refl,
         )

@@ -10,15 +10,14 @@ use Rattle.alf_spec.specs.Input.{Layout}
 use Rattle.alf_spec.specs.Geometry.{Side, Axis, luma_plane}
 use Rattle.alf_spec.specs.Boundary.{column_side, row_side}
 use Rattle.alf_spec.specs.Process.{class_at}
-use Rattle.alf_boundary.specs.declared.clips.CtbAxis.{CtbAxis}
+use Rattle.alf_math.specs.Grids.{AcceptedPicture}
 use Rattle.alf_pieces.specs.declared.pieces.Piece.{Piece}
 use Rattle.alf_pieces.specs.Pieces.{PieceOf, CtbOf}
-use Rattle.alf_pieces.specs.Walks.{PiecesAlong, in_piece}
-use Rattle.alf_classify.specs.PieceClasses.{ClassRooms}
+use Rattle.alf_pieces.specs.Walks.{Axes, PiecesAlong, in_piece}
 
--- room for a piece's work, the picture's map, and its luma samples
-pub record ClassWork (p : Picture) (g : Grid) (luma : List ℕ) (copy differences map : ℕ) : Type 0 where
-  pub rooms : ClassRooms p g copy differences
+-- an accepted picture and its grid, the picture's map, and its luma samples
+pub record ClassWork (p : Picture) (g : Grid) (luma : List ℕ) (map : ℕ) : Type 0 where
+  pub picture : AcceptedPicture p g
   pub map_length : map ≡ p.width / 4 * (p.height / 4)
   pub luma_length : length luma ≡ p.width * p.height
   pub samples : (k : ℕ) → get_or luma k 0 < 4096
@@ -38,6 +37,5 @@ PieceClassified p sides columns rows luma =
     (in_piece (p.width / 4) 4 4 columns rows)
 
 -- those of a part of the CTB through which these axes go
-abbrev pub AxesClassified : Picture → Sides → CtbAxis → List ℕ → CtbAxis → List ℕ → List ℕ → (ℕ → Bool) → List ℕ → List ℕ → Type 0
-AxesClassified p sides columns virtual_columns rows virtual_rows luma =
-    Classified p sides luma (PiecesAlong columns virtual_columns) (PiecesAlong rows virtual_rows)
+abbrev pub AxesClassified : Picture → Sides → Axes → List ℕ → (ℕ → Bool) → List ℕ → List ℕ → Type 0
+AxesClassified p sides x luma = Classified p sides luma (PiecesAlong x.columns x.virtual_columns) (PiecesAlong x.rows x.virtual_rows)

@@ -1,15 +1,21 @@
 // The classes of a CTB's blocks, a piece at a time.
 ghost use Rattle.std.specs.Prelude.{◌≡◌, ◌/◌, length};
 ghost use Rattle.alf_pieces.specs.Pieces.{BlockPiece};
-ghost use Rattle.alf_pieces.specs.Walks.{Along, in_walk};
+ghost use Rattle.alf_pieces.specs.Walks.{AlongAxes, in_walk};
 ghost use Rattle.alf_class_map.specs.ClassWork.{ClassWork, PieceClassified, AxesClassified};
 
-use alf_boundary::clips::CtbAxis;
-use alf_classify::piece_classes;
+use alf_classify::{AREA, piece_classes};
 use alf_pieces::copies::copy_piece;
 use alf_pieces::pieces::Piece;
-use alf_pieces::walks::{first_piece, next_piece};
+use alf_pieces::walks::{CtbAxes, first_piece, next_piece};
 use alf_spec::{Grid, Picture, Sides};
+
+// Room for the work of a piece: its copy, and the second differences of that.
+#[derive(Drop)]
+pub(crate) struct Rooms {
+    pub copy: [u16; AREA],
+    pub differences: [u16; 4 * AREA],
+}
 
 // The classes of a piece: those of every layout in which a CTB has these sides and the piece is one of its pieces.
 fn class_piece(
@@ -19,22 +25,28 @@ fn class_piece(
     columns: Piece,
     rows: Piece,
     luma: &[u16],
-    copy: &mut [u16],
-    differences: &mut [u16],
+    rooms: &mut Rooms,
     map: &mut [u8],
 )
-    requires { (ClassWork picture grid luma.now (length copy.old) (length differences.old) (length map.old))
+    requires { (ClassWork picture grid luma.now (length map.old))
         × (BlockPiece picture.width columns) × (BlockPiece picture.height rows) }
     ensures { PieceClassified picture sides columns rows luma.now map.old map.new }
 {
-    copy_piece(luma, picture.width as usize, columns, rows, sides, copy);
+    copy_piece(
+        luma,
+        picture.width as usize,
+        columns,
+        rows,
+        sides,
+        &mut rooms.copy,
+    );
     piece_classes(
         picture,
         grid,
         columns,
         rows,
-        copy,
-        differences,
+        &rooms.copy,
+        &mut rooms.differences,
         map,
         (picture.width / 4) as usize,
         (columns.start / 4) as usize,
@@ -47,36 +59,27 @@ pub(crate) fn class_ctb(
     picture: Picture,
     grid: Grid,
     sides: Sides,
-    columns: CtbAxis,
-    virtual_columns: &[u16],
-    rows: CtbAxis,
-    virtual_rows: &[u16],
+    axes: &CtbAxes,
     luma: &[u16],
-    copy: &mut [u16],
-    differences: &mut [u16],
+    rooms: &mut Rooms,
     map: &mut [u8],
 )
-    requires { (ClassWork picture grid luma.now (length copy.old) (length differences.old) (length map.old))
-        × (Along columns virtual_columns.now) × (columns.size ≡ picture.width) × (Along rows virtual_rows.now)
-        × (rows.size ≡ picture.height) }
-    ensures { AxesClassified picture sides columns virtual_columns.now rows virtual_rows.now
-        luma.now (in_walk (picture.width / 4) 4 4 columns rows) map.old map.new }
+    requires { (ClassWork picture grid luma.now (length map.old))
+        × (AlongAxes axes.now) × (axes.now.columns.size ≡ picture.width) × (axes.now.rows.size ≡ picture.height) }
+    ensures { AxesClassified picture sides axes.now luma.now (in_walk (picture.width / 4) 4 4 axes.now) map.old map.new }
 {
-    let mut at = first_piece(columns, virtual_columns, rows, virtual_rows);
-    while at.there {
-        let across = at.columns;
-        let down = at.rows;
+    let mut at = Some(first_piece(axes));
+    while let Some(walk) = at {
         class_piece(
             picture,
             grid,
             sides,
-            across,
-            down,
+            walk.columns,
+            walk.rows,
             luma,
-            copy,
-            differences,
+            rooms,
             map,
         );
-        at = next_piece(columns, virtual_columns, rows, virtual_rows, at);
+        at = next_piece(axes, walk);
     }
 }

@@ -7,9 +7,12 @@ use native.Mathlib.Nat.{le_trans, mul-le-mul_right}
 use native.Mathlib.Omega.{arith}
 use lib.ListN.{length, get_or}
 use Rattle.alf_spec.specs.declared.Picture.{Picture}
+use Rattle.alf_spec.specs.declared.Grid.{Grid}
 use Rattle.alf_spec.specs.declared.WindowRows.{WindowRows}
 use Rattle.alf_spec.specs.Classes.{window_sums, class_of_sums, class_of}
 use Rattle.alf_spec.specs.Process.{class_number}
+use Rattle.alf_math.specs.Grids.{AcceptedPicture}
+use Rattle.alf_math.proofs.Grids.{height_bounds}
 use Rattle.alf_pieces.specs.declared.pieces.Piece.{Piece}
 use Rattle.alf_pieces.specs.Pieces.{BlockPiece}
 use Rattle.alf_pieces.specs.Copies.{extent, pitch as pitch_of, copy_length, area}
@@ -64,6 +67,25 @@ pub copy_bounds : {m n : ℕ} {columns rows : Piece} → BlockPiece m columns �
 copy_bounds {columns = columns} {rows = rows} across down =
     let low : 6 * pitch_of columns ≤ copy_length columns rows = mul-le-mul_right (pitch_of columns) (omega arith) in
     (omega arith, copy_fits across.numbers down.numbers (omega arith))
+
+-- so they stand once the differences are found
+pub prepared : {m n : ℕ} {columns rows : Piece} → BlockPiece m columns → BlockPiece n rows → (copy d : List ℕ) {width height old : ℕ}
+    → width ≡ extent columns → height ≡ extent rows → ((k : ℕ) → k < copy_length columns rows → get_or copy k 0 < 4096) → 4 * area ≤ old
+    → (length d ≡ old) × Differences copy (width + 6) ((height + 6) * (width + 6)) d → Prepared rows copy d (width + 6) (width / 4)
+prepared across down copy d e f samples room done = record {
+  few = omega (arith, e, (blocks across).few);
+  pitch_is = omega (arith, e, (blocks across).whole);
+  samples = rw e samples;
+  small = rw e (copy_bounds across down).1;
+  room = omega (arith, done.0, room);
+  differences = rw f at done.1;
+}
+
+-- a row of blocks lies in the piece and in the picture
+pub row_inside : {p : Picture} {g : Grid} → AcceptedPicture p g → {rows : Piece} → BlockPiece p.height rows → {row : ℕ} → row < extent rows / 4
+    → (row < 32) × (rows.start + 4 * row ≤ 4096)
+row_inside ok B h =
+    let N = B.numbers in omega (arith, N.high, N.inside, (blocks B).few, (height_bounds _ ok.sizes ok.ctb_size).1)
 
 module _ (p : Picture) (ctb : ℕ) (rows : Piece) (copy d : List ℕ) {pitch count : ℕ} (P : Prepared rows copy d pitch count)
     (row : ℕ) (below : row < extent rows / 4) where

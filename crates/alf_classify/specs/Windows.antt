@@ -8,6 +8,7 @@ use Rattle.alf_spec.specs.Arithmetic.{distance}
 use Rattle.alf_spec.specs.Classes.{class_of_sums}
 use Rattle.alf_spec.specs.Process.{class_number}
 use Rattle.alf_pieces.specs.Copies.{area}
+use Rattle.alf_classify.specs.declared.blocks.ColumnSums.{ColumnSums}
 
 -- the window of the block whose first sample is at column s and row t of a piece, in the piece's copy, of which a row has `pitch` samples:
 -- entry 10 j + i stands at the offsets i − 3 and j − 3, as in `class_window`
@@ -62,17 +63,18 @@ SmallRuns d from n reach =
 abbrev pub column_from : List ℕ → ℕ → ℕ → ℕ → ℕ → ℕ
 column_from d pitch pairs from x = column_sum d pitch pairs (from + x)
 
--- a pair of rows added to sums that stand in a list
-abbrev pub pair_added : List ℕ → List ℕ → ℕ → ℕ → ℕ → ℕ
-pair_added sums d pitch from x = get_or sums x 0 + pair_at d pitch (from + x)
-
 -- the sum over the columns of a window, whose first stands at index `at` of a list of sums
 unfoldable pub four_columns : List ℕ → ℕ → ℕ
 four_columns sums at = sum_below 4 (λ i. get_or sums (at + 2 * i) 0)
 
 -- the sums of a block's window, from the sums of columns in each direction
-unfoldable pub column_sums : List ℕ → List ℕ → List ℕ → List ℕ → ℕ → Sums
-column_sums v h d0 d1 at = record { v = four_columns v at; h = four_columns h at; d0 = four_columns d0 at; d1 = four_columns d1 at }
+unfoldable pub column_sums : ColumnSums → ℕ → Sums
+column_sums s at = record {
+  v = four_columns s.v at;
+  h = four_columns s.h at;
+  d0 = four_columns s.d0 at;
+  d1 = four_columns s.d1 at;
+}
 
 -- the sums of a block's window, from the differences
 unfoldable pub block_sums : List ℕ → ℕ → ℕ → ℕ → Sums
@@ -84,8 +86,8 @@ block_sums d pitch pairs k = record {
 }
 
 -- the class number at index k of the map, from the sums of columns, of which the first belongs to the block at index `at`
-abbrev pub column_class : List ℕ → List ℕ → List ℕ → List ℕ → ℕ → ℕ → ℕ → ℕ → ℕ
-column_class v h d0 d1 factor depth at k = class_number (class_of_sums depth factor (column_sums v h d0 d1 (4 * (k - at))))
+abbrev pub column_class : ColumnSums → ℕ → ℕ → ℕ → ℕ → ℕ
+column_class s factor depth at k = class_number (class_of_sums depth factor (column_sums s (4 * (k - at))))
 
 -- the class number at index k of the map, from the differences; those of the window of the block at index `at` begin at index `from`
 abbrev pub row_class : List ℕ → ℕ → WindowRows → ℕ → ℕ → ℕ → ℕ → ℕ

@@ -22,53 +22,37 @@ use alf_spec::{Grid, Picture, Sums, WindowRows};
 // seventh.
 const COLUMNS: usize = 131;
 
+// The sums of columns for a row of blocks, in the four directions.
+#[derive(Drop)]
+struct ColumnSums {
+    v: [u16; COLUMNS],
+    h: [u16; COLUMNS],
+    d0: [u16; COLUMNS],
+    d1: [u16; COLUMNS],
+}
+
 // The class number of a block, from the sums of columns; those of its window begin at index `at`.
-fn block_class(
-    v: &[u16],
-    h: &[u16],
-    d0: &[u16],
-    d1: &[u16],
-    at: usize,
-    factor: u32,
-    depth: u32,
-) -> u8
-    requires { (at + 6 < length v.now) × (at + 6 < length h.now) × (at + 6 < length d0.now) × (at + 6 < length d1.now)
-        × (factor ≤ 3) × (8 ≤ depth) × (depth ≤ 12) }
-    ensures { result ≡ class_number (class_of_sums depth factor (column_sums v.now h.now d0.now
-        d1.now at)) }
+fn block_class(columns: &ColumnSums, at: usize, factor: u32, depth: u32) -> u8
+    requires { (at + 6 < COLUMNS) × (factor ≤ 3) × (8 ≤ depth) × (depth ≤ 12) }
+    ensures { result ≡ class_number (class_of_sums depth factor (column_sums columns.now at)) }
 {
     let sums = Sums {
-        v: block_sum(v, at),
-        h: block_sum(h, at),
-        d0: block_sum(d0, at),
-        d1: block_sum(d1, at),
+        v: block_sum(&columns.v, at),
+        h: block_sum(&columns.h, at),
+        d0: block_sum(&columns.d0, at),
+        d1: block_sum(&columns.d1, at),
     };
     let class = class_of_sums(sums, factor, depth);
     (class.filter + 32 * class.transpose) as u8
 }
 
 // The class numbers of so many blocks in a row.
-fn class_run(
-    v: &[u16],
-    h: &[u16],
-    d0: &[u16],
-    d1: &[u16],
-    count: usize,
-    factor: u32,
-    depth: u32,
-    map: &mut [u8],
-    at: usize,
-)
-    requires { (4 * count + 2 < length v.now) × (4 * count + 2 < length h.now) × (4 * count + 2 < length d0.now)
-        × (4 * count + 2 < length d1.now)
-        × (factor ≤ 3) × (8 ≤ depth) × (depth ≤ 12) × (at + count ≤ length map.old) }
-    ensures { map.new ≡ painted map.old (between at count)
-        (column_class v.now h.now d0.now d1.now factor depth at) }
+fn class_run(columns: &ColumnSums, count: usize, factor: u32, depth: u32, map: &mut [u8], at: usize)
+    requires { (4 * count + 2 < COLUMNS) × (factor ≤ 3) × (8 ≤ depth) × (depth ≤ 12) × (at + count ≤ length map.old) }
+    ensures { map.new ≡ painted map.old (between at count) (column_class columns.now factor depth at) }
 {
-    let mut m = 0;
-    while m < count {
-        map[at + m] = block_class(v, h, d0, d1, 4 * m, factor, depth);
-        m += 1;
+    for m in 0..count {
+        map[at + m] = block_class(columns, 4 * m, factor, depth);
     }
 }
 
@@ -93,15 +77,31 @@ fn class_row(
 {
     let pairs = window.count / 2;
     let n = 4 * count + 3;
-    let mut v: [u16; COLUMNS] = [0; COLUMNS];
-    let mut h: [u16; COLUMNS] = [0; COLUMNS];
-    let mut d0: [u16; COLUMNS] = [0; COLUMNS];
-    let mut d1: [u16; COLUMNS] = [0; COLUMNS];
-    column_sums(differences, from, pitch, pairs, n, &mut v);
-    column_sums(differences, AREA + from, pitch, pairs, n, &mut h);
-    column_sums(differences, 2 * AREA + from, pitch, pairs, n, &mut d0);
-    column_sums(differences, 3 * AREA + from, pitch, pairs, n, &mut d1);
-    class_run(&v, &h, &d0, &d1, count, window.factor, depth, map, at);
+    let mut columns = ColumnSums {
+        v: [0; COLUMNS],
+        h: [0; COLUMNS],
+        d0: [0; COLUMNS],
+        d1: [0; COLUMNS],
+    };
+    column_sums(differences, from, pitch, pairs, n, &mut columns.v);
+    column_sums(differences, AREA + from, pitch, pairs, n, &mut columns.h);
+    column_sums(
+        differences,
+        2 * AREA + from,
+        pitch,
+        pairs,
+        n,
+        &mut columns.d0,
+    );
+    column_sums(
+        differences,
+        3 * AREA + from,
+        pitch,
+        pairs,
+        n,
+        &mut columns.d1,
+    );
+    class_run(&columns, count, window.factor, depth, map, at);
 }
 
 // The rows that count in the windows of the blocks whose first row is y.
@@ -155,14 +155,11 @@ pub fn piece_classes(
     let n = (extent(rows) + 6) * pitch;
     all_differences(copy, pitch, n, differences);
     let count = width / 4;
-    let depth = picture.bit_depth as u32;
-    let end = (rows.end - rows.start) / 4;
-    let mut row = 0;
-    while row < end {
+    let depth = u32::from(picture.bit_depth);
+    for row in 0..(rows.end - rows.start) / 4 {
         let window = row_window(picture.height, grid.ctb, rows.start + 4 * row);
         let from = window_index(row, window.first, pitch);
         let at = map_index(map_columns, left, top, row);
         class_row(differences, from, pitch, count, window, depth, map, at);
-        row += 1;
     }
 }

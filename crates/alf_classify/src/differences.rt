@@ -15,6 +15,7 @@ use alf_math::windows::second_difference;
 pub const AREA: usize = 17956;
 
 // The second difference of sample k of the copy and the two samples that lie `step` before and after it.
+#[tactic(auto, unfolding(crate::specs::Windows::difference_at))]
 fn difference(copy: &[u16], k: usize, step: usize) -> u16
     requires { (step ≤ k) × (k + step < length copy.now)
         × (get_or copy.now k 0 < 4096) × (get_or copy.now (k - step) 0 < 4096) × (get_or copy.now (k + step) 0 < 4096) }
@@ -39,11 +40,8 @@ fn second_differences(
         (difference_from copy.now step at) }
 {
     let first = at + margin;
-    let count = n - (margin + margin);
-    let mut x = 0;
-    while x < count {
+    for x in 0..n - (margin + margin) {
         differences[first + x] = difference(copy, margin + x, step);
-        x += 1;
     }
 }
 

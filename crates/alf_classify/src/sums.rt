@@ -4,7 +4,7 @@
 ghost use Rattle.std.specs.Prelude.{◌≡◌, ℕ, ◌+◌, ◌-◌, ◌*◌, ◌^◌, ◌≤◌, ◌<◌, length, get_or};
 ghost use Rattle.alf_spec.specs.Lists.{painted};
 ghost use Rattle.alf_lists.specs.Regions.{between};
-ghost use Rattle.alf_classify.specs.Windows.{pair_at, column_sum, SmallRun, column_from, pair_added, four_columns};
+ghost use Rattle.alf_classify.specs.Windows.{pair_at, column_sum, SmallRun, column_from, four_columns};
 
 // At an even column, the two samples of a 2 by 2 cell that count: those whose offsets are both even, and both odd. At an odd column it is
 // of no use.
@@ -15,38 +15,29 @@ fn pair(d: &[u16], k: usize, pitch: usize) -> u16
     d[k] + d[k + (pitch + 1)]
 }
 
-// The sum of one column over three pairs of rows.
-fn three_pairs(d: &[u16], k: usize, pitch: usize) -> u16
-    requires { (k + (5 * pitch + 1) < length d.now) × (SmallRun d.now k (k + (5 * pitch + 2))) }
-    ensures { result ≡ column_sum d.now pitch 3 k }
+// The sum of one column over so many pairs of rows: 3 or 4, which a compiler writes out.
+#[tactic(auto, using(crate::proofs::ColumnSums::column_more))]
+fn column_sum<const PAIRS: usize>(d: &[u16], k: usize, pitch: usize) -> u16
+    requires { (1 ≤ PAIRS) × (PAIRS ≤ 4) × (k + (PAIRS * (2 * pitch) + 1 - pitch) < length d.now)
+        × (SmallRun d.now k (k + (PAIRS * (2 * pitch) + 2 - pitch))) }
+    ensures { result ≡ column_sum d.now pitch PAIRS k }
 {
-    pair(d, k, pitch) + pair(d, k + 2 * pitch, pitch) + pair(d, k + 4 * pitch, pitch)
-}
-
-// The sums of n columns over three pairs of rows, one column after the other.
-fn sum_three_pairs(d: &[u16], from: usize, pitch: usize, n: usize, sums: &mut [u16])
-    requires { (n ≤ length sums.old) × (from + n + (5 * pitch + 1) ≤ length d.now)
-        × (SmallRun d.now from (from + n + (5 * pitch + 1))) }
-    ensures { sums.new ≡ painted sums.old (between 0 n) (column_from d.now pitch 3 from) }
-{
-    let mut x = 0;
-    while x < n {
-        sums[x] = three_pairs(d, from + x, pitch);
-        x += 1;
+    let mut sum = 0;
+    for u in 0..PAIRS {
+        sum += pair(d, k + u * (2 * pitch), pitch);
     }
+    sum
 }
 
-// One pair of rows more, added to the sums of n columns.
-fn add_pair(d: &[u16], from: usize, pitch: usize, n: usize, sums: &mut [u16])
-    requires { (n ≤ length sums.old) × (from + n + (pitch + 1) ≤ length d.now) × (SmallRun d.now from (from + n + (pitch + 1)))
-        × ((x : ℕ) → x < n → get_or sums.old x 0 ≤ 49140) }
-    ensures { sums.new ≡ painted sums.old (between 0 n)
-        (pair_added sums.old d.now pitch from) }
+// The sums of n columns over so many pairs of rows, one column after the other.
+fn sum_columns<const PAIRS: usize>(d: &[u16], from: usize, pitch: usize, n: usize, sums: &mut [u16])
+    requires { (1 ≤ PAIRS) × (PAIRS ≤ 4) × (1 ≤ pitch) × (n ≤ length sums.old)
+        × (from + n + (PAIRS * (2 * pitch) + 1 - pitch) ≤ length d.now)
+        × (SmallRun d.now from (from + n + (PAIRS * (2 * pitch) + 1 - pitch))) }
+    ensures { sums.new ≡ painted sums.old (between 0 n) (column_from d.now pitch PAIRS from) }
 {
-    let mut x = 0;
-    while x < n {
-        sums[x] = sums[x] + pair(d, from + x, pitch);
-        x += 1;
+    for x in 0..n {
+        sums[x] = column_sum::<PAIRS>(d, from + x, pitch);
     }
 }
 
@@ -64,23 +55,21 @@ pub(crate) fn column_sums(
         × (SmallRun d.now from (from + n + (pairs * (2 * pitch) + 1 - pitch))) }
     ensures { sums.new ≡ painted sums.old (between 0 n) (column_from d.now pitch pairs from) }
 {
-    sum_three_pairs(d, from, pitch, n, sums);
     if pairs == 4 {
-        add_pair(d, from + 6 * pitch, pitch, n, sums);
+        sum_columns::<4>(d, from, pitch, n, sums);
+    } else {
+        sum_columns::<3>(d, from, pitch, n, sums);
     }
 }
 
-// A sum of 16 bits, so that it can be added without overflow.
-fn wide(n: u16) -> u32
-    ensures { (result ≡ n) × (result < 2 ^ 16) }
-{
-    n as u32
-}
-
 // The sum over the columns of a block's window: four cells of two columns.
+#[tactic(auto, using(crate::proofs::ColumnSums::four_columns_lem))]
 pub(crate) fn block_sum(sums: &[u16], at: usize) -> u32
     requires { at + 6 < length sums.now }
     ensures { (result ≡ four_columns sums.now at) × (result < 2 ^ 18) }
 {
-    wide(sums[at]) + wide(sums[at + 2]) + wide(sums[at + 4]) + wide(sums[at + 6])
+    u32::from(sums[at])
+        + u32::from(sums[at + 2])
+        + u32::from(sums[at + 4])
+        + u32::from(sums[at + 6])
 }

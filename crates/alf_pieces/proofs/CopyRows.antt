@@ -1,11 +1,11 @@
 -- The copy of a piece, row by row: its parts join, and each row holds what `copy_at` says. Assumes nothing.
-use mathlib.Core.Path.{◌≡◌, refl, ap, ◌∙◌}
-use mathlib.Core.Bool.{true, ◌&&◌}
-use mathlib.Core.List.{List}
-use Prim.Native.Nat.{ℕ, ◌+◌, ◌-◌, ◌*◌, ◌%◌, ◌≤◌, ◌<◌}
-use native.Mathlib.Omega.{arith}
-use lib.Dec.{leb, ltb}
-use lib.ListN.{get_or}
+use Rattle.std.proofs.Common.{◌≡◌, refl, sym, ap, ◌∙◌, subst, true, ◌&&◌, List, ℕ, zero, suc, ◌+◌, ◌-◌, ◌*◌, ◌%◌, ◌≤◌, ◌<◌, leb, ltb}
+use Rattle.std.proofs.Common.{length, get_or, take, drop, length-take, length-drop, add-one, arith}
+use Rattle.std.proofs.Math.Seq.{paste, paste-zero}
+use Rattle.std.proofs.lemmas.List.{get_or-take, get_or-drop}
+use Rattle.std.proofs.lemmas.List.Edits.{paste_more}
+use Rattle.std.proofs.lemmas.Slice.{put_mid-paste}
+use borrow.Rule.Slice.PartMut.{put_mid}
 use Rattle.alf_spec.specs.declared.Sides.{Sides}
 use Rattle.alf_spec.specs.Lists.{painted}
 use Rattle.alf_spec.proofs.Tests.{cond_either}
@@ -15,14 +15,37 @@ use Rattle.alf_lists.specs.Regions.{between}
 use Rattle.alf_pieces.specs.Pieces.{PieceIn}
 use Rattle.alf_pieces.specs.Copies.{held, extent, pitch, copy_row, row_lowest, row_limit, row_range, copy_column}
 use Rattle.alf_pieces.specs.Copies.{copied, copy_at, run_at, row_at, RowRoom}
-use Rattle.alf_lists.proofs.Painted.{Paint, paint_is, paint_of, paint_call}
-use Rattle.alf_lists.proofs.Regions.{run_facts, run_join, row_of, row_room}
+use Rattle.alf_lists.proofs.Painted.{Paint, paint_is, paint_of, paint_none, paint_set, paint_call}
+use Rattle.alf_lists.proofs.Regions.{run_none, run_more, run_facts, run_join, row_of, row_room}
 
 -- ---- one sample
 
 pub run_value : (plane : List ℕ) (from at i : ℕ) → get_or plane (from + i) 0 ≡ run_at plane from at (at + i)
 unfolding run_at
 run_value plane from at i = ap (λ (k : ℕ). get_or plane (from + k) 0) (omega arith)
+
+-- a run that the library copies into a part of the copy
+module _ (plane copy : List ℕ) (from n at : ℕ) (inside : from + n ≤ length plane) (room : at + n ≤ length copy) where
+  abbrev part : List ℕ
+  part = take n (drop from plane)
+
+  part-length : length part ≡ n
+  part-length = simp (length-take, length-drop) (omega arith)
+
+  pasted : (i : ℕ) → i ≤ n → Paint copy (between at i) (run_at plane from at) (paste copy at part i)
+  pasted zero h = subst (λ ys. Paint copy (between at 0) (run_at plane from at) ys) (paste-zero copy at part) (paint_none (λ k. run_none at k))
+  pasted (suc i) h =
+      let so_far = pasted i (omega arith) in
+      let here : i < length part = omega (arith, part-length) in
+      let value : get_or part i 0 ≡ run_at plane from at (at + i) =
+      get_or-take n (drop from plane) i 0 (omega arith) ∙ get_or-drop from plane i 0 ∙ run_value plane from at i in
+      rw (← add-one) (subst (λ ys. Paint copy (between at (i + 1)) (run_at plane from at) ys) (paste_more copy at part i 0 (omega arith) here)
+      (paint_set _ _ so_far (omega (arith, so_far.len)) value (λ k _. run_more at i k)))
+
+  pub run_copied : (j k : ℕ) {new : List ℕ} → j ≡ n → k ≡ n → new ≡ take k (drop from plane)
+      → put_mid at j copy new ≡ painted copy (between at n) (run_at plane from at)
+  run_copied j k e f g =
+      put_mid-paste at j copy _ part n (rw f at g) (sym e) (sym part-length) ∙ paint_is (pasted n (omega arith))
 
 module _ (plane : List ℕ) (r : RowRange) (at : ℕ) where
   -- of the margin: p is where the copy's place i lies before it is held

@@ -1,43 +1,32 @@
 -- How a loop over the blocks of a CTB finds where a piece ends. Assumes nothing.
 use mathlib.Core.Path.{◌≡◌, refl, sym, ◌∙◌}
-use mathlib.Core.Bool.{Bool, true, false, cond}
+use mathlib.Core.Bool.{true, false, cond}
 use mathlib.Core.List.{List}
-use mathlib.Core.Option.{Option, some, none, get_or}
-use Prim.Native.Nat.{ℕ, suc, pred, ◌+◌, ◌-◌, ◌*◌, ◌/◌, ◌≤◌, ◌<◌}
-use native.Mathlib.Nat.{mul-one, div-one, div-eq_of_lt-le}
+use Rattle.std.specs.Prelude.{Option, Some, None, is_some}
+use Rattle.std.proofs.Math.Option.{Option as Found, some, none, get_or}
+use Prim.Native.Nat.{ℕ, suc, pred, ◌+◌, ◌-◌, ◌/◌, ◌≤◌, ◌<◌}
+use native.Mathlib.Nat.{mul-one, div-one}
 use native.Mathlib.Omega.{arith}
 use Rattle.alf_spec.specs.Geometry.{before, after}
 use Rattle.alf_spec.specs.Boundary.{clip, clip_position}
 use Rattle.alf_spec.specs.Padding.{is_none, lowest, limit}
 use Rattle.alf_boundary.specs.declared.clips.CtbAxis.{CtbAxis}
-use Rattle.alf_boundary.specs.declared.clips.FoundClip.{FoundClip}
-use Rattle.alf_boundary.specs.Clips.{clip_of, position_of, axis_along, sides_along, InCtb}
+use Rattle.alf_spec.specs.declared.Clip.{Clip}
+use Rattle.alf_boundary.specs.Clips.{clip_of, position_of, axis_along, sides_along}
 use Rattle.alf_pieces.specs.Pieces.{limit_along, BlockAt, run_end, piece_end, piece_at}
-
--- a position u of the CTB in which a block begins at x, where u does not lie before x
-pub in_ctb_lem : {a : CtbAxis} {x : ℕ} (u : ℕ) → BlockAt a x → x ≤ u → u < limit_along a → InCtb a u
-in_ctb_lem {a} u b low high =
-    let from : a.place * a.ctb ≤ u = omega (arith, b.from) in
-    record {
-      low = b.low;
-      high = b.high;
-      line = b.line;
-      small = omega (arith, b.size);
-      place = sym (div-eq_of_lt-le a.ctb from (omega arith));
-    }
 
 -- what reads are clamped to in the luma plane: the clip positions, or the plane's ends
 module _ (a : CtbAxis) (list : List ℕ) where
-  pub lowest-luma : (o : Option ℕ) → lowest (axis_along a list 1) o ≡ get_or o 0
+  pub lowest-luma : (o : Found ℕ) → lowest (axis_along a list 1) o ≡ get_or o 0
   lowest-luma none = refl
   lowest-luma (some e) = div-one e
 
-  pub limit-luma : (o : Option ℕ) → limit (axis_along a list 1) o ≡ get_or o a.size
+  pub limit-luma : (o : Found ℕ) → limit (axis_along a list 1) o ≡ get_or o a.size
   limit-luma none = div-one a.size
   limit-luma (some e) = div-one e
 
   -- the piece that begins at x, from the clips before its first sample and after its last
-  pub piece_is : {end last low high : ℕ} (x : ℕ) (lower upper : FoundClip)
+  pub piece_is : {end last low high : ℕ} (x : ℕ) (lower upper : Option Clip)
       → end ≡ piece_end (axis_along a list 1) (sides_along a) a.place x → last ≡ pred end
       → clip_of lower ≡ clip (axis_along a list 1) x (sides_along a) before
       → clip_of upper ≡ clip (axis_along a list 1) last (sides_along a) after
@@ -62,9 +51,9 @@ pub record Scanned (a : CtbAxis) (list : List ℕ) (x end : ℕ) : Type 0 where
   pub upto : end ≤ limit_along a
   pub rest : end_from a list x ≡ run_from a list end
 
-pub scan_start : {a : CtbAxis} {list : List ℕ} {x : ℕ} → BlockAt a x → Scanned a list x x
+pub scan_start : {a : CtbAxis} {list : List ℕ} {x end : ℕ} → BlockAt a x → end ≡ x → Scanned a list x end
 unfolding piece_end
-scan_start b = record { from = omega arith; upto = omega (arith, b.upto); rest = refl }
+scan_start b e = record { from = omega arith; upto = omega (arith, b.upto); rest = rw e refl }
 
 module _ {a : CtbAxis} {list : List ℕ} {x end : ℕ} (s : Scanned a list x end) where
   -- no whole block is left
@@ -72,18 +61,21 @@ module _ {a : CtbAxis} {list : List ℕ} {x end : ℕ} (s : Scanned a list x end
   unfolding run_end
   scan_done h = let none_left : (limit_along a - end) / 4 ≡ 0 = omega arith in sym (s.rest ∙ rw none_left)
 
-  -- a block, and what stands after its last sample
-  module _ (h : end + 4 ≤ limit_along a) (after_last : FoundClip)
-      (found : clip_of after_last ≡ clip (axis_along a list 1) (end + 3) (sides_along a) after) {t : Bool}
-      (opens : t ≡ is_none (position_of after_last)) where
-    block : end_from a list x ≡ cond t (run_from a list (end + 4)) (end + 4)
+  -- a block, up to its last sample and to the next block, and what stands after that sample
+  module _ (last next : ℕ) (h : end + 4 ≤ limit_along a) (at : last ≡ end + 3) (behind : next ≡ end + 4) where
+    block : (o : Option Clip) → clip_of o ≡ clip (axis_along a list 1) last (sides_along a) after
+        → end_from a list x ≡ cond (is_none (position_of o)) (run_from a list next) next
     unfolding run_end clip_position
-    block =
+    block o found =
         let one_more : (limit_along a - end) / 4 ≡ suc ((limit_along a - (end + 4)) / 4) = omega arith in
-        s.rest ∙ rw (one_more, ← found, ← opens)
+        s.rest ∙ rw (one_more, found, at, behind)
 
-    pub scan_on : t ≡ true → Scanned a list x (end + 4)
-    scan_on on = record { from = omega (arith, s.from); upto = h; rest = block ∙ rw on }
+    pub scan_on : (o : Option Clip) → clip_of o ≡ clip (axis_along a list 1) last (sides_along a) after → is_some o ≡ false
+        → Scanned a list x next
+    scan_on None found e = record { from = omega (arith, s.from); upto = omega arith; rest = block None found }
+    scan_on (Some c) found e = cc
 
-    pub scan_stop : t ≡ false → end + 4 ≡ end_from a list x
-    scan_stop off = sym (block ∙ rw off)
+    pub scan_stop : (o : Option Clip) → clip_of o ≡ clip (axis_along a list 1) last (sides_along a) after → is_some o ≡ true
+        → next ≡ end_from a list x
+    scan_stop (Some c) found e = sym (block (Some c) found)
+    scan_stop None found e = cc

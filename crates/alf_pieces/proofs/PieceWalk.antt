@@ -113,10 +113,6 @@ module _ {a : CtbAxis} {list : List ℕ} (along : Along a list) where
           };
         }
 
--- the walk ends where the CTB does
-pub walk_done : {a : CtbAxis} {list : List ℕ} {x end : ℕ} → Walk a list x → end ≡ limit_along a → end ≤ x → x ≡ limit_along a
-walk_done w limit h = omega (arith, w.upto)
-
 -- ---- a piece of another axis
 
 -- the same piece, of an axis and sides given otherwise

@@ -14,13 +14,7 @@ fn held(lowest: usize, limit: usize, p: usize) -> usize
     requires { lowest < limit }
     ensures { result ≡ held_in lowest limit p }
 {
-    if p < lowest {
-        return lowest;
-    }
-    if p < limit {
-        return p;
-    }
-    limit - 1
+    p.clamp(lowest, limit - 1)
 }
 
 // The samples of a piece along its axis.
@@ -36,13 +30,11 @@ fn position(start: usize, i: usize) -> usize
     requires { start + i < 2 ^ 63 }
     ensures { result ≡ start + i - 3 }
 {
-    if start + i < 3 {
-        return 0;
-    }
-    start + i - 3
+    (start + i).saturating_sub(3)
 }
 
 // The first column that is read in the plane's row v.
+#[tactic(auto, unfolding(crate::specs::Copies::row_lowest))]
 fn row_lowest(columns: Piece, rows: Piece, sides: Sides, v: usize) -> usize
     ensures { result ≡ row_lowest columns rows sides v }
 {
@@ -54,6 +46,7 @@ fn row_lowest(columns: Piece, rows: Piece, sides: Sides, v: usize) -> usize
 }
 
 // The first column that is not read any more in the plane's row v.
+#[tactic(auto, unfolding(crate::specs::Copies::row_limit))]
 fn row_limit(columns: Piece, rows: Piece, sides: Sides, v: usize) -> usize
     ensures { result ≡ row_limit columns rows sides v }
 {
@@ -77,11 +70,7 @@ pub fn copy_run(plane: &[u16], from: usize, n: usize, copy: &mut [u16], at: usiz
     requires { (from + n ≤ length plane.now) × (at + n ≤ length copy.old) }
     ensures { copy.new ≡ painted copy.old (between at n) (run_at plane.now from at) }
 {
-    let mut i: usize = 0;
-    while i < n {
-        copy[at + i] = plane[from + i];
-        i += 1;
-    }
+    copy[at..at + n].copy_from_slice(&plane[from..from + n]);
 }
 
 // What a row of the copy holds: the plane's row that begins at index `row`, from 3 columns before column `start` on, where columns are held
@@ -100,11 +89,9 @@ fn copy_side(plane: &[u16], r: RowRange, copy: &mut [u16], at: usize, i: usize)
         × (at + i + 3 ≤ length copy.old) }
     ensures { copy.new ≡ painted copy.old (between (at + i) 3) (row_at plane.now r at) }
 {
-    let mut k: usize = 0;
-    while k < 3 {
+    for k in 0..3 {
         let column = held(r.lowest, r.limit, position(r.start, i + k));
         copy[at + i + k] = plane[r.row + column];
-        k += 1;
     }
 }
 
@@ -131,6 +118,7 @@ fn row_of(rows: Piece, j: usize) -> usize
 }
 
 // What row j of the copy of a piece holds. Past a corner it has its own range of columns.
+#[tactic(auto, unfolding(crate::specs::Copies::copy_row, crate::specs::Copies::row_range))]
 fn row_range(width: usize, columns: Piece, rows: Piece, sides: Sides, j: usize) -> RowRange
     requires { (rows.lowest ≤ rows.start) × (rows.start < rows.limit) × (rows.start + j < 2 ^ 63)
         × (rows.limit * width < 2 ^ 63) }
@@ -161,11 +149,8 @@ pub fn copy_piece(
         (copy_at columns rows sides plane.now width) }
 {
     let n = extent(columns);
-    let count = extent(rows) + 6;
-    let mut j: usize = 0;
-    while j < count {
+    for j in 0..extent(rows) + 6 {
         let range = row_range(width, columns, rows, sides, j);
         copy_row(plane, range, n, copy, j * (n + 6));
-        j += 1;
     }
 }

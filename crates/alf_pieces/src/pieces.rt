@@ -2,13 +2,12 @@
 // range, which is found once: that of its first and of its last sample.
 ghost use Rattle.std.specs.Prelude.{◌≡◌, ◌*◌, ◌≤◌, ◌<◌};
 ghost use Rattle.std.proofs.Math.Option.{get_or};
-ghost use Rattle.alf_spec.specs.Padding.{is_none};
 ghost use Rattle.alf_boundary.specs.Clips.{position_of, axis_along, sides_along};
 ghost use Rattle.alf_pieces.specs.Pieces.{limit_along, BlockAt, piece_end, scaled as scaled_by};
 ghost use Rattle.alf_pieces.specs.Walks.{Along, Walk, Turn};
 
-use alf_boundary::clips::{CtbAxis, FoundClip, ctb_start, find_clip};
-use alf_math::grid::previous;
+use alf_boundary::clips::{CtbAxis, ctb_start, find_clip};
+use alf_spec::Clip;
 
 // A piece along an axis, in the plane's own samples.
 #[derive(Clone, Copy)]
@@ -21,24 +20,11 @@ pub struct Piece {
     pub limit: u32,
 }
 
-// Whether there is no clip position.
-fn is_open(found: FoundClip) -> bool
-    ensures { result ≡ is_none (position_of found) }
-{
-    match found {
-        FoundClip::At(_) => false,
-        FoundClip::Nowhere => true,
-    }
-}
-
 // The clip position, or what stands for it where there is none: where reads begin or end.
-fn bound(found: FoundClip, otherwise: u32) -> u32
+fn bound(found: Option<Clip>, otherwise: u32) -> u32
     ensures { result ≡ get_or (position_of found) otherwise }
 {
-    match found {
-        FoundClip::At(clip) => clip.position,
-        FoundClip::Nowhere => otherwise,
-    }
+    found.map_or(otherwise, |clip| clip.position)
 }
 
 // Where the axis's CTB ends in the picture: the last CTB may not be whole.
@@ -46,8 +32,7 @@ pub fn ctb_limit(axis: CtbAxis) -> u32
     requires { (axis.ctb ≤ 128) × (axis.place * axis.ctb ≤ 65535) }
     ensures { result ≡ limit_along axis }
 {
-    let end = ctb_start(axis) + axis.ctb;
-    if end < axis.size { end } else { axis.size }
+    (ctb_start(axis) + axis.ctb).min(axis.size)
 }
 
 // Where the piece ends that begins at x: with the first block of 4 samples whose last one has a clip position after it. With the line 4
@@ -57,16 +42,14 @@ fn piece_end(axis: CtbAxis, boundaries: &[u16], x: u32) -> u32
     ensures { (x < result) × (result ≤ limit_along axis)
         × (result ≡ piece_end (axis_along axis boundaries.now 1) (sides_along axis) axis.place x) }
 {
-    let limit = ctb_limit(axis);
-    let mut end = x;
-    while end + 4 <= limit {
-        let last = end + 3;
-        end += 4;
-        if !is_open(find_clip(axis, boundaries, true, last)) {
+    let blocks = (ctb_limit(axis) - x) / 4;
+    for k in 0..blocks {
+        let end = x + 4 * (k + 1);
+        if find_clip(axis, boundaries, true, end - 1).is_some() {
             return end;
         }
     }
-    end
+    x + 4 * blocks
 }
 
 // The piece of the luma plane that begins at x, in a walk over the pieces of the axis's CTB.
@@ -76,8 +59,7 @@ pub fn piece_at(axis: CtbAxis, boundaries: &[u16], x: u32) -> Piece
 {
     let end = piece_end(axis, boundaries, x);
     let lower = find_clip(axis, boundaries, false, x);
-    let last = previous(end);
-    let upper = find_clip(axis, boundaries, true, last);
+    let upper = find_clip(axis, boundaries, true, end - 1);
     Piece {
         start: x,
         end: end,
@@ -87,6 +69,7 @@ pub fn piece_at(axis: CtbAxis, boundaries: &[u16], x: u32) -> Piece
 }
 
 // A piece of the luma plane, in the samples of a plane with this ratio to luma: what bounds a piece is a multiple of 4 luma samples.
+#[tactic(auto, unfolding(crate::specs::Pieces::scaled))]
 pub fn scaled(piece: Piece, ratio: u32) -> Piece
     requires { 0 < ratio }
     ensures { result ≡ scaled_by ratio piece }
