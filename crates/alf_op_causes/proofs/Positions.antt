@@ -33,7 +33,7 @@ module _ (l : Layout) (ok : AcceptedLayout l) {g : Grid} (h : GridOf l.picture g
   own = record { column = x / g.ctb; row = y / g.ctb }
 
   pub in_grid : (GridOf l.picture g)
-      × (MembershipTables g l.tile_columns l.tile_rows l.slice_map l.subpic_map l.subpic_across)
+      × (MembershipTables g l)
       × (x / g.ctb < g.columns) × (y / g.ctb < g.rows)
   unfolding ctbs_along
   in_grid =
