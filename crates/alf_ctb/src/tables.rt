@@ -21,9 +21,9 @@ pub fn is_on(filter: Filter, input: &FilterInput, k: usize) -> bool
         → result ≡ is_on filter i c }
 {
     match filter {
-        Filter::Luma => luma_on(input.ctb_params, k),
-        Filter::Chroma(component) => chroma_on(input.ctb_params, component, k),
-        Filter::CrossComponent(component) => cross_on(input.ctb_params, component, k),
+        Filter::Luma => luma_on(input, k),
+        Filter::Chroma(component) => chroma_on(input, component, k),
+        Filter::CrossComponent(component) => cross_on(input, component, k),
     }
 }
 
@@ -39,25 +39,24 @@ pub fn load(filter: Filter, input: &FilterInput, k: usize, filters: &mut [i16])
         → FixedSame filter i own.layout.picture.bit_depth own.fixed_filters own.fixed_map
         → OwnFilter filter i c filters.new) }
 {
-    let slice_map = input.layout.slice_map;
     match filter {
         Filter::Luma => {
-            let set = luma_set(k, input.ctb_params);
+            let set = luma_set(k, input);
             if set < FIXED_SETS {
-                let depth = input.layout.picture.bit_depth as u32;
-                load_fixed(depth, set, input.fixed_filters, input.fixed_map, filters);
+                let layout = &input.layout;
+                let depth = layout.picture.bit_depth as u32;
+                load_fixed(depth, set, input, filters);
             } else {
-                let run = luma_run(set);
-                load_from_aps(run, k, slice_map, input.slice_params, input.bank, filters);
+                load_from_aps(luma_run(set), k, input, filters);
             }
         }
         Filter::Chroma(component) => {
-            let run = chroma_run(component, k, input.ctb_params);
-            load_from_aps(run, k, slice_map, input.slice_params, input.bank, filters);
+            let run = chroma_run(component, k, input);
+            load_from_aps(run, k, input, filters);
         }
         Filter::CrossComponent(component) => {
-            let run = cross_run(component, k, input.ctb_params);
-            load_from_aps(run, k, slice_map, input.slice_params, input.bank, filters);
+            let run = cross_run(component, k, input);
+            load_from_aps(run, k, input, filters);
         }
     }
 }
