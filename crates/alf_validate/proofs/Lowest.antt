@@ -14,9 +14,9 @@ use Rattle.alf_spec.specs.Boundary.{slice_of}
 use Rattle.alf_spec.specs.Parameters.{ctb_param, slice_param}
 use Rattle.alf_spec.specs.Answers.{fault_number}
 use Rattle.alf_spec.specs.Faults.{bit_depth_valid, layout_lengths_valid, filter_lengths_valid, lengths_valid, corners_valid, slice_corner}
-use Rattle.alf_spec.specs.Faults.{slices_valid, slice_params_valid, ctb_ranges_valid, ctb_chroma_zero, ctb_params_valid_at, parameters_valid}
-use Rattle.alf_spec.specs.Faults.{bank_valid, fixed_valid, samples_valid, addresses_valid, component_valid, unless, layout_fault, tables_fault}
-use Rattle.alf_spec.specs.Faults.{fault}
+use Rattle.alf_spec.specs.Faults.{slices_valid, slice_params_valid, ctb_ranges_valid, ctb_chroma_zero, ctb_params_valid_at}
+use Rattle.alf_spec.specs.Faults.{parameters_valid, bank_valid, fixed_valid, samples_valid, addresses_valid, component_valid, unless}
+use Rattle.alf_spec.specs.Faults.{layout_fault, tables_fault, fault}
 use Rattle.alf_spec.proofs.Tests.{and_same, both}
 use Rattle.alf_spec.proofs.Accepted.{AcceptedLayout, table_lengths, chain}
 use Rattle.alf_spec.proofs.Answers.{numbered}
@@ -49,7 +49,8 @@ pub ruleset judged = (layout_stops, layout_goes_on, accepted_depth)
 
 -- of the causes after the layout's it has 12 alone
 pub classes_by_tests : (l : Layout) (plane : List ℕ) (n : ℕ) → fault classes (classes_input l plane n)
-    ≡ layout_fault l true (eqb (length plane) (l.picture.width / 1 * (l.picture.height / 1)) && eqb n (l.picture.width / 4 * (l.picture.height / 4)))
+    ≡ layout_fault l true
+    (eqb (length plane) (l.picture.width / 1 * (l.picture.height / 1)) && eqb n (l.picture.width / 4 * (l.picture.height / 4)))
     (unless (samples_valid l.picture plane) 12 0)
 unfolding fault component_valid lengths_valid tables_fault unless plane_of
 classes_by_tests l plane n = rw and-true refl
@@ -115,7 +116,7 @@ module _ (i : Input) (component r own : Bool) (fit : length i.layout.slice_map �
     filter_same =
         rw (
           beside (layout_lengths_valid i.layout) (r && own) (filter_lengths_valid i && own)
-          (λ e. and_same (fit (table_lengths i.layout e).slice_map) refl),
+              (λ e. and_same (fit (table_lengths i.layout e).slice_map) refl),
           chosen,
           lengths,
           own_lengths_lem f (with_output n i),
