@@ -16,7 +16,7 @@ fn position_valid(picture: Picture, x: u32, y: u32) -> bool
 }
 
 // The lowest fault of a layout and a luma position at which the causes are asked for. The position is judged last.
-#[tactic(auto, using(crate::proofs::LowestFault::layout_then), unfolding(alf_spec::specs::Faults::causes_fault, alf_spec::specs::Faults::unless))]
+#[tactic(auto, using(crate::proofs::Lowest::judged), unfolding(alf_spec::specs::Faults::causes_fault, alf_spec::specs::Faults::unless))]
 pub fn judge_causes(layout: &Layout, x: u32, y: u32) -> Result<(), Fault>
     ensures { number_of result ≡ causes_fault layout.now true x y }
 {

@@ -9,7 +9,7 @@ use alf_validate_layout::require::require;
 use alf_validate_tables::region::{region_length_valid, region_valid};
 
 // The lowest fault of the isolation test's input, a layout and a region. The region's entries are judged last.
-#[tactic(auto, using(crate::proofs::LowestFault::layout_then), unfolding(alf_spec::specs::Faults::isolation_fault, alf_spec::specs::Faults::unless))]
+#[tactic(auto, using(crate::proofs::Lowest::judged), unfolding(alf_spec::specs::Faults::isolation_fault, alf_spec::specs::Faults::unless))]
 pub fn judge_isolation(layout: &Layout, region: &[u8]) -> Result<(), Fault>
     ensures { number_of result ≡ isolation_fault layout.now region.now }
 {

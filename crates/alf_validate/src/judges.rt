@@ -23,7 +23,7 @@ fn component_valid(picture: Picture, component: u8) -> bool
 }
 
 // The lowest fault of the class map's input.
-#[tactic(auto, using(crate::proofs::LowestFault::layout_then), unfolding(crate::specs::Filters::own_lengths_valid, alf_spec::specs::Faults::fault, alf_spec::specs::Faults::component_valid, alf_spec::specs::Faults::lengths_valid, alf_spec::specs::Faults::tables_fault, alf_spec::specs::Faults::unless, alf_spec::specs::Geometry::plane_of))]
+#[tactic(auto, using(crate::proofs::Lowest::classes_judged), unfolding(alf_spec::specs::Faults::unless))]
 pub fn judge_classes(layout: &Layout, luma: &[u16], output_length: usize) -> Result<(), Fault>
     ensures { number_of result ≡ fault classes (classes_input layout.now luma.now output_length) }
 {
@@ -70,7 +70,7 @@ fn own_lengths(filter: Filter, input: &FilterInput, output_length: usize) -> boo
 }
 
 // The lowest fault of a filter's input. What the filter is not given is not judged.
-#[tactic(auto, using(crate::proofs::LowestFault::filter_then))]
+#[tactic(auto, using(crate::proofs::Lowest::filter_then))]
 pub fn judge_filter(filter: Filter, input: &FilterInput, output_length: usize) -> Result<(), Fault>
     ensures { number_of result ≡ fault (operation_of filter) (with_output output_length input.now) }
 {

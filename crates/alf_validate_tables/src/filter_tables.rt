@@ -10,7 +10,7 @@ use alf_spec::{Fault, Filter, FilterInput};
 use alf_validate_layout::require::require;
 
 // The lowest of causes 10 to 13. What the filter is not given is not judged.
-#[tactic(auto, using(crate::proofs::FilterTables::addresses_by_map), unfolding(crate::specs::Tables::filter_tables_fault, alf_spec::specs::Faults::unless))]
+#[tactic(auto, using(crate::proofs::Tables::by_map), unfolding(crate::specs::Tables::filter_tables_fault, alf_spec::specs::Faults::unless))]
 pub fn filter_tables_fault(filter: Filter, input: &FilterInput) -> Result<(), Fault>
     requires { TablesFit input.now }
     ensures { number_of result ≡ filter_tables_fault filter input.now }

@@ -10,7 +10,7 @@ use alf_spec::{Filter, FilterInput, Picture};
 use alf_validate_layout::entries::every;
 
 // Whether each sample of a plane is below 1 << BitDepth.
-#[tactic(auto, using(crate::proofs::BitDepth::one_shifted), unfolding(alf_spec::specs::Faults::bit_depth_valid, alf_spec::specs::Faults::samples_valid))]
+#[tactic(auto, using(crate::proofs::BitDepth::depths), unfolding(alf_spec::specs::Faults::samples_valid))]
 pub fn samples_valid(picture: Picture, plane: &[u16]) -> bool
     requires { bit_depth_valid picture ≡ true }
     ensures { result ≡ samples_valid picture plane.now }

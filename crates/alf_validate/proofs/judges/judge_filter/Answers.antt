@@ -1,7 +1,7 @@
 -- The layout is rejected, and its tables are not judged. Assumes nothing.
 use Rattle.std.proofs.Common.{rules, ◌≡◌, sym, ◌∙◌}
 use Rattle.alf_spec.specs.Answers.{number_of, fault_number}
-use Rattle.alf_validate.proofs.LowestFault.{filter_stops}
+use Rattle.alf_validate.proofs.Lowest.{filter_stops}
 use Rattle.alf_validate.proofs.judges.judge_filter.Goals as goal
 
 pub returns-in_err-layout_fault : goal.returns-in_err-layout_fault

@@ -1,26 +1,28 @@
 -- How an operation's judge comes to its answer: from that of the layout, and from what comes after it where the layout is accepted.
 -- Assumes nothing.
-use Rattle.std.proofs.Common.{◌≡◌, refl, sym, ◌∙◌, ap, true, false, ◌&&◌, ℕ, ◌*◌, Bool, length, eqb, ltb}
+use Rattle.std.proofs.Common.{◌≡◌, refl, sym, ◌∙◌, ap, true, false, ◌&&◌, ℕ, ◌*◌, ◌/◌, Bool, List, length, eqb, ltb}
+use Rattle.std.proofs.Math.Bool.{and-true}
 use borrow.Author.Tests.{eqb-true}
 use Rattle.alf_spec.specs.declared.Fault.{Fault}
 use Rattle.alf_spec.specs.declared.Filter.{Filter}
 use Rattle.alf_spec.specs.declared.Filter.TheVariants.{Luma, Chroma, CrossComponent}
 use Rattle.alf_spec.specs.Lists.{every}
-use Rattle.alf_spec.specs.Input.{Layout, Operation, Input, with_output}
+use Rattle.alf_spec.specs.Input.{Layout, Operation, classes, Input, classes_input, with_output}
 use Rattle.alf_spec.specs.Filters.{operation_of}
 use Rattle.alf_spec.specs.Geometry.{plane_of, total_ctbs}
 use Rattle.alf_spec.specs.Boundary.{slice_of}
 use Rattle.alf_spec.specs.Parameters.{ctb_param, slice_param}
 use Rattle.alf_spec.specs.Answers.{fault_number}
 use Rattle.alf_spec.specs.Faults.{bit_depth_valid, layout_lengths_valid, filter_lengths_valid, lengths_valid, corners_valid, slice_corner}
-use Rattle.alf_spec.specs.Faults.{slices_valid, slice_params_valid, ctb_ranges_valid, ctb_chroma_zero, ctb_params_valid_at, parameters_valid, bank_valid}
-use Rattle.alf_spec.specs.Faults.{fixed_valid, addresses_valid, component_valid, layout_fault, tables_fault, fault}
+use Rattle.alf_spec.specs.Faults.{slices_valid, slice_params_valid, ctb_ranges_valid, ctb_chroma_zero, ctb_params_valid_at}
+use Rattle.alf_spec.specs.Faults.{parameters_valid, bank_valid, fixed_valid, samples_valid, addresses_valid, component_valid, unless}
+use Rattle.alf_spec.specs.Faults.{layout_fault, tables_fault, fault}
 use Rattle.alf_spec.proofs.Tests.{and_same, both}
 use Rattle.alf_spec.proofs.Accepted.{AcceptedLayout, table_lengths, chain}
 use Rattle.alf_spec.proofs.Answers.{numbered}
 use Rattle.alf_spec.proofs.Faults.{layout_rejects, layout_accepts}
 use Rattle.alf_validate_tables.specs.Tables.{filter_tables_fault, TablesFit}
-use Rattle.alf_validate_tables.proofs.FilterTables.{tables_fault_lem}
+use Rattle.alf_validate_tables.proofs.Tables.{tables_fault_lem}
 use Rattle.alf_validate.specs.Filters.{own_lengths_valid}
 
 module _ (l : Layout) (component lengths : Bool) where
@@ -41,7 +43,19 @@ module _ (l : Layout) (component lengths : Bool) where
   pub accepted_depth : 0 ≡ layout_fault l component lengths 0 → bit_depth_valid l.picture ≡ true
   accepted_depth e = (passed e).0.bit_depth
 
-pub ruleset layout_then = (layout_stops, layout_goes_on, accepted_depth)
+pub ruleset judged = (layout_stops, layout_goes_on, accepted_depth)
+
+-- ---- the class map's judge
+
+-- of the causes after the layout's it has 12 alone
+pub classes_by_tests : (l : Layout) (plane : List ℕ) (n : ℕ) → fault classes (classes_input l plane n)
+    ≡ layout_fault l true
+    (eqb (length plane) (l.picture.width / 1 * (l.picture.height / 1)) && eqb n (l.picture.width / 4 * (l.picture.height / 4)))
+    (unless (samples_valid l.picture plane) 12 0)
+unfolding fault component_valid lengths_valid tables_fault unless plane_of
+classes_by_tests l plane n = rw and-true refl
+
+pub ruleset classes_judged = (classes_by_tests, layout_stops, layout_goes_on, accepted_depth)
 
 -- ---- a filter's judge
 
@@ -53,9 +67,14 @@ own_lengths_lem (Chroma component) i = refl
 own_lengths_lem (CrossComponent component) i = refl
 
 -- causes 10 to 13 do not look at the output
-tables_same : (op : Operation) (i : Input) (n : ℕ) → tables_fault op (with_output n i) ≡ tables_fault op i
-unfolding tables_fault parameters_valid slice_params_valid ctb_params_valid_at ctb_ranges_valid ctb_chroma_zero ctb_param slice_param slice_of plane_of bank_valid fixed_valid addresses_valid
-tables_same op i n = refl
+module _ (i : Input) (n : ℕ) where
+  parameters_same : parameters_valid (with_output n i) ≡ parameters_valid i
+  unfolding parameters_valid slice_params_valid ctb_params_valid_at ctb_ranges_valid ctb_chroma_zero ctb_param slice_param slice_of plane_of
+  parameters_same = refl
+
+  tables_same : (op : Operation) → tables_fault op (with_output n i) ≡ tables_fault op i
+  unfolding tables_fault bank_valid fixed_valid addresses_valid plane_of
+  tables_same op = rw parameters_same refl
 
 -- a test that counts only where the one before it passes
 beside : (a b c : Bool) → (a ≡ true → b ≡ c) → (a && b) ≡ (a && c)
@@ -96,12 +115,13 @@ module _ (i : Input) (component r own : Bool) (fit : length i.layout.slice_map �
     unfolding fault layout_fault filter_lengths_valid plane_of
     filter_same =
         rw (
-          beside (layout_lengths_valid i.layout) (r && own) (filter_lengths_valid i && own) (λ e. and_same (fit (table_lengths i.layout e).slice_map) refl),
+          beside (layout_lengths_valid i.layout) (r && own) (filter_lengths_valid i && own)
+              (λ e. and_same (fit (table_lengths i.layout e).slice_map) refl),
           chosen,
           lengths,
           own_lengths_lem f (with_output n i),
           tables_fault_lem f i,
-          ← tables_same (operation_of f) i n,
+          ← tables_same i n (operation_of f),
         )
 
     pub filter_stops : (e : Fault) → fault_number e ≡ layout_fault i.layout component (r && own) 0

@@ -17,7 +17,7 @@ tables_fault_lem (Chroma component) i = refl
 tables_fault_lem (CrossComponent component) i = refl
 
 -- where the slice map has an entry for each CTB, its length serves for the number of CTBs
-pub addresses_by_map : (i : Input) (r : Bool) → r ≡ every (λ n. ltb n (length i.layout.slice_map)) i.ctb_list
+pub by_map : (i : Input) (r : Bool) → r ≡ every (λ n. ltb n (length i.layout.slice_map)) i.ctb_list
     → length i.layout.slice_map ≡ total_ctbs i.layout → addresses_valid i ≡ r
 unfolding addresses_valid
-addresses_by_map i r e full = ap (λ (n : ℕ). every (λ a. ltb a n) i.ctb_list) (sym full) ∙ sym e
+by_map i r e full = ap (λ (n : ℕ). every (λ a. ltb a n) i.ctb_list) (sym full) ∙ sym e
