@@ -1,4 +1,4 @@
-// Whether a filter is on in the CTB at address k.
+// Whether a filter is on in the CTB at address k: a function for each filter, since each meets a definition of its own.
 ghost use Rattle.std.specs.Prelude.{◌≡◌, ◌+◌, ◌*◌, ◌≤◌, length};
 ghost use Rattle.alf_spec.specs.declared.Ctb.{Ctb};
 ghost use Rattle.alf_spec.specs.Input.{Input};
