@@ -1,5 +1,5 @@
 // Causes 1 to 9 of paper 01's table: those of the picture and its boundary tables, which every operation judges. A function for each, and
-// the lowest of them; and the test of a table of bytes and the step of a judge, which later causes share.
+// the lowest of them; and the test of every entry of a table and the step of a judge, which later causes share.
 #![tactic(auto)]
 
 mod corners;

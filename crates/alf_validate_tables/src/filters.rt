@@ -43,7 +43,7 @@ fn bank_number_valid(bit_depth: u8, k: usize, number: i16) -> bool
     }
 }
 
-// Whether each number of the whole bank is in its range.
+// Whether each number of the whole bank is in its range, which its place decides too.
 pub fn bank_valid(bit_depth: u8, bank: &[i16]) -> bool
     requires { bit_depth ≤ 12 }
     ensures { result ≡ every_from 0 (bank_number_valid bit_depth) bank.now }
