@@ -45,7 +45,8 @@ fn second_differences(
     }
 }
 
-// The second differences in the four directions, one list of AREA after the other: filtV, filtH, filtD0, filtD1.
+// The second differences in the four directions, one list of AREA after the other: filtV, filtH, filtD0, filtD1. They stay one list, since
+// the filter of cross-component, which finds no classes, takes the same room for its split copy.
 pub(crate) fn all_differences(copy: &[u16], pitch: usize, n: usize, differences: &mut [u16])
     requires { (1 ≤ pitch) × (2 * (pitch + 1) ≤ n) × (n ≤ area) × (area ≤ length copy.now) × (4 * area ≤ length differences.old)
         × ((k : ℕ) → k < n → get_or copy.now k 0 < 4096) }
