@@ -165,7 +165,7 @@ pub fn piece_classes(
     let width = extent(columns);
     let pitch = width + 6;
     let n = (extent(rows) + 6) * pitch;
-    all_differences(copy, pitch, n, differences);
+    all_differences(&copy[..n], pitch, differences);
     let count = width / 4;
     let depth = u32::from(picture.bit_depth);
     for row in 0..(rows.end - rows.start) / 4 {
