@@ -5,7 +5,8 @@ use mathlib.Core.List.{List}
 use Prim.Native.Nat.{ℕ, ◌+◌, ◌-◌, ◌*◌, ◌≤◌, ◌<◌}
 use native.Mathlib.Nat.{zero-add}
 use native.Mathlib.Omega.{arith}
-use lib.ListN.{length, get_or}
+use lib.ListN.{length, get_or, take}
+use Rattle.std.proofs.lemmas.List.{get_or-take}
 use Rattle.alf_spec.specs.Arithmetic.{distance}
 use Rattle.alf_spec.proofs.Tests.{never}
 use Rattle.alf_lists.specs.Regions.{between}
@@ -55,6 +56,25 @@ module _ (copy : List ℕ) (pitch n : ℕ) {xs v h d0 d1 : List ℕ} (small : n 
     d0 = λ k low high. last-kept (2 * area + k) (omega arith) ∙ written copy n (pitch + 1) (pitch + 1) (2 * area) c k low high
         (omega (arith, lengths));
     d1 = λ k low high. written copy n (pitch + 1) (pitch - 1) (3 * area) d k low high (omega (arith, lengths));
+  }
+
+-- the differences of the first n samples of a copy are those of the copy
+module _ (copy : List ℕ) (pitch n : ℕ) where
+  part_same : (step k : ℕ) → step ≤ pitch + 1 → k + (pitch + 1) < n → difference_at (take n copy) step k ≡ difference_at copy step k
+  unfolding difference_at
+  part_same step k h inside =
+      rw (
+        get_or-take n copy k 0 (omega arith),
+        get_or-take n copy (k - step) 0 (omega arith),
+        get_or-take n copy (k + step) 0 (omega arith),
+      )
+
+  pub of_part : {m : ℕ} (d : List ℕ) → m ≡ n → 1 ≤ pitch → Differences (take n copy) pitch m d → Differences copy pitch n d
+  of_part d e wide D = record {
+    v = λ k l h. D.v k l (rw e h) ∙ part_same pitch k (omega arith) h;
+    h = λ k l h. D.h k l (rw e h) ∙ part_same 1 k (omega arith) h;
+    d0 = λ k l h. D.d0 k l (rw e h) ∙ part_same (pitch + 1) k (omega arith) h;
+    d1 = λ k l h. D.d1 k l (rw e h) ∙ part_same (pitch - 1) k (omega arith) h;
   }
 
 -- ---- how large they are

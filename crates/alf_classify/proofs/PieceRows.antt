@@ -5,7 +5,7 @@ use mathlib.Core.List.{List}
 use Prim.Native.Nat.{ℕ, ◌+◌, ◌-◌, ◌*◌, ◌/◌, ◌%◌, ◌≤◌, ◌<◌}
 use native.Mathlib.Nat.{le_trans, mul-le-mul_right}
 use native.Mathlib.Omega.{arith}
-use lib.ListN.{length, get_or}
+use lib.ListN.{length, get_or, take, length-take}
 use Rattle.alf_spec.specs.declared.Picture.{Picture}
 use Rattle.alf_spec.specs.declared.Grid.{Grid}
 use Rattle.alf_spec.specs.declared.WindowRows.{WindowRows}
@@ -21,7 +21,7 @@ use Rattle.alf_lists.proofs.Regions.{run_facts, row_of, row_room}
 use Rattle.alf_pieces.proofs.CopyRooms.{copy_fits}
 use Rattle.alf_classify.specs.Windows.{copy_window, Differences, block_sums, SmallRuns, row_class}
 use Rattle.alf_classify.specs.PieceClasses.{row_window, copy_class_at}
-use Rattle.alf_classify.proofs.DifferenceLists.{small_runs}
+use Rattle.alf_classify.proofs.DifferenceLists.{small_runs, of_part}
 use Rattle.alf_classify.proofs.WindowSums.{RowBounds, row_bounds, window_sums_lem}
 
 -- what stands before the rows of a piece, each of so many blocks, are classified: its copy, and the differences of the copy
@@ -68,18 +68,23 @@ copy_bounds {columns = columns} {rows = rows} across down =
     let low : 6 * pitch_of columns ≤ copy_length columns rows = mul-le-mul_right (pitch_of columns) (omega arith) in
     (omega arith, copy_fits across.numbers down.numbers (omega arith))
 
--- so they stand once the differences are found
+-- so they stand once the differences of the part of the room that the copy fills are found
 pub prepared : {m n : ℕ} {columns rows : Piece} → BlockPiece m columns → BlockPiece n rows → (copy d : List ℕ) {width height old : ℕ}
-    → width ≡ extent columns → height ≡ extent rows → ((k : ℕ) → k < copy_length columns rows → get_or copy k 0 < 4096) → 4 * area ≤ old
-    → (length d ≡ old) × Differences copy (width + 6) ((height + 6) * (width + 6)) d → Prepared rows copy d (width + 6) (width / 4)
-prepared across down copy d e f samples room done = record {
-  few = omega (arith, e, (blocks across).few);
-  pitch_is = omega (arith, e, (blocks across).whole);
-  samples = rw e samples;
-  small = rw e (copy_bounds across down).1;
-  room = omega (arith, done.0, room);
-  differences = rw f at done.1;
-}
+    → width ≡ extent columns → height ≡ extent rows → ((k : ℕ) → k < copy_length columns rows → get_or copy k 0 < 4096) → area ≤ length copy
+    → 4 * area ≤ old
+    → (let part = take ((height + 6) * (width + 6)) copy in (length d ≡ old) × Differences part (width + 6) (length part) d)
+    → Prepared rows copy d (width + 6) (width / 4)
+prepared {columns = columns} {rows} across down copy d {width} {height} e f samples copy_room room done =
+    let small : (height + 6) * (width + 6) ≤ area = rw (e, f) (copy_bounds across down).1 in
+    let whole : length (take ((height + 6) * (width + 6)) copy) ≡ (height + 6) * (width + 6) = simp length-take (omega arith) in
+    record {
+      few = omega (arith, e, (blocks across).few);
+      pitch_is = omega (arith, e, (blocks across).whole);
+      samples = rw e samples;
+      small = rw f at small;
+      room = omega (arith, done.0, room);
+      differences = rw f at (of_part copy (width + 6) ((height + 6) * (width + 6)) d whole (omega arith) done.1);
+    }
 
 -- a row of blocks lies in the piece and in the picture
 pub row_inside : {p : Picture} {g : Grid} → AcceptedPicture p g → {rows : Piece} → BlockPiece p.height rows → {row : ℕ} → row < extent rows / 4

@@ -31,10 +31,18 @@ struct ColumnSums {
     d1: [u16; COLUMNS],
 }
 
+// What the activity of a row's blocks is scaled by: the factor of their windows, and the bit depth.
+#[derive(Clone, Copy)]
+struct Scale {
+    factor: u32,
+    depth: u32,
+    ghost in_range: { (factor ≤ 3) × (8 ≤ depth) × (depth ≤ 12) },
+}
+
 // The class number of a block, from the sums of columns; those of its window begin at index `at`.
-fn block_class(columns: &ColumnSums, at: usize, factor: u32, depth: u32) -> u8
-    requires { (at + 6 < COLUMNS) × (factor ≤ 3) × (8 ≤ depth) × (depth ≤ 12) }
-    ensures { result ≡ class_number (class_of_sums depth factor (column_sums columns.now at)) }
+fn block_class(columns: &ColumnSums, at: usize, scale: Scale) -> u8
+    requires { at + 6 < COLUMNS }
+    ensures { result ≡ class_number (class_of_sums scale.depth scale.factor (column_sums columns.now at)) }
 {
     let sums = Sums {
         v: block_sum(&columns.v, at),
@@ -42,17 +50,17 @@ fn block_class(columns: &ColumnSums, at: usize, factor: u32, depth: u32) -> u8
         d0: block_sum(&columns.d0, at),
         d1: block_sum(&columns.d1, at),
     };
-    let class = class_of_sums(sums, factor, depth);
+    let class = class_of_sums(sums, scale.factor, scale.depth);
     (class.filter + 32 * class.transpose) as u8
 }
 
 // The class numbers of so many blocks in a row.
-fn class_run(columns: &ColumnSums, count: usize, factor: u32, depth: u32, map: &mut [u8], at: usize)
-    requires { (4 * count + 2 < COLUMNS) × (factor ≤ 3) × (8 ≤ depth) × (depth ≤ 12) × (at + count ≤ length map.old) }
-    ensures { map.new ≡ painted map.old (between at count) (column_class columns.now factor depth at) }
+fn class_run(columns: &ColumnSums, count: usize, scale: Scale, map: &mut [u8], at: usize)
+    requires { (4 * count + 2 < COLUMNS) × (at + count ≤ length map.old) }
+    ensures { map.new ≡ painted map.old (between at count) (column_class columns.now scale.factor scale.depth at) }
 {
     for m in 0..count {
-        map[at + m] = block_class(columns, 4 * m, factor, depth);
+        map[at + m] = block_class(columns, 4 * m, scale);
     }
 }
 
@@ -101,7 +109,11 @@ fn class_row(
         n,
         &mut columns.d1,
     );
-    class_run(&columns, count, window.factor, depth, map, at);
+    let scale = Scale {
+        factor: window.factor,
+        depth: depth,
+    };
+    class_run(&columns, count, scale, map, at);
 }
 
 // The rows that count in the windows of the blocks whose first row is y.
@@ -153,7 +165,7 @@ pub fn piece_classes(
     let width = extent(columns);
     let pitch = width + 6;
     let n = (extent(rows) + 6) * pitch;
-    all_differences(copy, pitch, n, differences);
+    all_differences(&copy[..n], pitch, differences);
     let count = width / 4;
     let depth = u32::from(picture.bit_depth);
     for row in 0..(rows.end - rows.start) / 4 {

@@ -24,37 +24,31 @@ fn difference(copy: &[u16], k: usize, step: usize) -> u16
     second_difference(copy[k], copy[k - step], copy[k + step])
 }
 
-// The second differences in one direction, of the first n samples but for `margin` of them at each end. One run over all rows: a difference
-// that spans the ends of two rows is never summed.
-fn second_differences(
-    copy: &[u16],
-    n: usize,
-    margin: usize,
-    step: usize,
-    differences: &mut [u16],
-    at: usize,
-)
-    requires { (step ≤ margin) × (margin + margin ≤ n) × (n ≤ length copy.now) × (at + n ≤ length differences.old)
-        × ((k : ℕ) → k < n → get_or copy.now k 0 < 4096) }
-    ensures { differences.new ≡ painted differences.old (between (at + margin) (n - (margin + margin)))
+// The second differences in one direction, but for `margin` of them at each end. One run over all rows: a difference that spans the ends of
+// two rows is never summed.
+fn second_differences(copy: &[u16], margin: usize, step: usize, differences: &mut [u16], at: usize)
+    requires { (step ≤ margin) × (margin + margin ≤ length copy.now) × (at + length copy.now ≤ length differences.old)
+        × ((k : ℕ) → k < length copy.now → get_or copy.now k 0 < 4096) }
+    ensures { differences.new ≡ painted differences.old (between (at + margin) (length copy.now - (margin + margin)))
         (difference_from copy.now step at) }
 {
     let first = at + margin;
-    for x in 0..n - (margin + margin) {
+    for x in 0..copy.len() - (margin + margin) {
         differences[first + x] = difference(copy, margin + x, step);
     }
 }
 
-// The second differences in the four directions, one list of AREA after the other: filtV, filtH, filtD0, filtD1.
-pub(crate) fn all_differences(copy: &[u16], pitch: usize, n: usize, differences: &mut [u16])
-    requires { (1 ≤ pitch) × (2 * (pitch + 1) ≤ n) × (n ≤ area) × (area ≤ length copy.now) × (4 * area ≤ length differences.old)
-        × ((k : ℕ) → k < n → get_or copy.now k 0 < 4096) }
+// The second differences in the four directions, one list of AREA after the other: filtV, filtH, filtD0, filtD1. They stay one list, since
+// the filter of cross-component, which finds no classes, takes the same room for its split copy.
+pub(crate) fn all_differences(copy: &[u16], pitch: usize, differences: &mut [u16])
+    requires { (1 ≤ pitch) × (2 * (pitch + 1) ≤ length copy.now) × (length copy.now ≤ area) × (4 * area ≤ length differences.old)
+        × ((k : ℕ) → k < length copy.now → get_or copy.now k 0 < 4096) }
     ensures { (length differences.new ≡ length differences.old)
-        × (Differences copy.now pitch n differences.new) }
+        × (Differences copy.now pitch (length copy.now) differences.new) }
 {
     let margin = pitch + 1;
-    second_differences(copy, n, margin, pitch, differences, 0);
-    second_differences(copy, n, margin, 1, differences, AREA);
-    second_differences(copy, n, margin, pitch + 1, differences, 2 * AREA);
-    second_differences(copy, n, margin, pitch - 1, differences, 3 * AREA);
+    second_differences(copy, margin, pitch, differences, 0);
+    second_differences(copy, margin, 1, differences, AREA);
+    second_differences(copy, margin, pitch + 1, differences, 2 * AREA);
+    second_differences(copy, margin, pitch - 1, differences, 3 * AREA);
 }

@@ -1,6 +1,8 @@
 // The sums of second differences over the windows of a row of blocks: first over the window's rows, for each column once, then over its
 // columns.
 //   (1476) to (1479)  sum = Σ filt[ i ][ j ],  i = −2..5,  j = minY..maxY,  of those i and j that are both even or both odd
+// A list, an index and the pitch of its rows stay three arguments: that entries are small holds of a run of the list alone, and each
+// function reads another run, so that a type that keeps it would need the run's ends too.
 ghost use Rattle.std.specs.Prelude.{◌≡◌, ℕ, ◌+◌, ◌-◌, ◌*◌, ◌^◌, ◌≤◌, ◌<◌, length, get_or};
 ghost use Rattle.alf_spec.specs.Lists.{painted};
 ghost use Rattle.alf_lists.specs.Regions.{between};

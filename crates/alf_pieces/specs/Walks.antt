@@ -52,6 +52,9 @@ pub record Axes : Type 0 where
   pub rows : CtbAxis
   pub virtual_rows : List ℕ
 
+abbrev pub axes_of : CtbAxis → List ℕ → CtbAxis → List ℕ → Axes
+axes_of a virtual_columns b virtual_rows = record { columns = a; virtual_columns = virtual_columns; rows = b; virtual_rows = virtual_rows }
+
 -- those of a layout with this grid through the CTB at address k, with its sides and with the line so many luma rows above its bottom
 abbrev pub axes_through : Layout → Grid → Sides → ℕ → ℕ → Axes
 axes_through l g s line k = record {

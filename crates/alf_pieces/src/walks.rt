@@ -1,6 +1,6 @@
 // A walk over the pieces of a CTB: a piece of its rows at a time, and in that a piece of its columns at a time.
 ghost use Rattle.std.specs.Prelude.{◌≡◌, ◌*◌, ◌<◌};
-ghost use Rattle.alf_pieces.specs.Walks.{Axes, axes_through, AlongAxes, Stands, Follows};
+ghost use Rattle.alf_pieces.specs.Walks.{Axes, axes_of, axes_through, AlongAxes, Stands, Follows};
 
 use crate::pieces::{Piece, ctb_limit, piece_at};
 use alf_boundary::clips::{CtbAxis, column_axis, ctb_start, row_axis};
@@ -19,7 +19,7 @@ pub struct CtbAxes<'a> {
 impl<'a> Model for CtbAxes<'a> {
     ghost Value = { Axes };
 
-    ghost view = { λ a. record { columns = a.columns; virtual_columns = a.virtual_columns.now; rows = a.rows; virtual_rows = a.virtual_rows.now } };
+    ghost view = { λ a. axes_of a.columns a.virtual_columns.now a.rows a.virtual_rows.now };
 }
 
 impl<'a> CtbAxes<'a> {

@@ -14,7 +14,7 @@ loop-m-preserved c =
     let here : 4 * c.loop-m.m ≡ 4 * (c.args.at + c.loop-m.m - c.args.at) = omega arith in
     paint_set _ _ c.loop-m.invariant (omega arith)
     (c.block_class.ensures
-    ∙ ap (λ (k : ℕ). class_number (class_of_sums c.args.depth c.args.factor (column_sums c.args.columns.now k))) here)
+    ∙ ap (λ (k : ℕ). class_number (class_of_sums c.args.scale.depth c.args.scale.factor (column_sums c.args.columns.now k))) here)
     (λ k h. run_more _ _ k)
 
 pub returns : goal.returns

@@ -5,4 +5,4 @@ use Rattle.alf_classify.proofs.blocks.class_run.Given as goal
 
 -- the numbers of m blocks are written
 abbrev pub invariant-loop-m : goal.invariant-loop-m
-invariant-loop-m l = Paint l.fn.map (between l.at l.m) (column_class l.columns l.factor l.depth l.at) l.map
+invariant-loop-m l = Paint l.fn.map (between l.at l.m) (column_class l.columns l.scale.factor l.scale.depth l.at) l.map

@@ -24,7 +24,7 @@ window_index-from-requires c =
 pub class_row-requires : goal.class_row-requires
 class_row-requires c =
     let P = prepared c.requires.1 c.requires.2 c.args.copy.now c.all_differences.new.differences c.extent-width.ensures c.extent.ensures
-    c.requires.3 c.requires.0.difference_room c.all_differences.ensures in
+    c.requires.3 c.requires.0.copy_room c.requires.0.difference_room c.all_differences.ensures in
     let bounds : RowBounds c.row_window-window.result = rw c.row_window-window.ensures (row_bounds _ _ _) in
     let depth = depth_bounds _ c.requires.0.picture.depth in
     let ready = row_ready c.args.picture c.args.grid.ctb _ _ _ P c.loop-row.row c.loop-row-test.true _ c.row_window-window.ensures
@@ -35,7 +35,7 @@ class_row-requires c =
 pub loop-row-preserved : goal.loop-row-preserved
 loop-row-preserved c =
     let P = prepared c.requires.1 c.requires.2 c.args.copy.now c.all_differences.new.differences c.extent-width.ensures c.extent.ensures
-    c.requires.3 c.requires.0.difference_room c.all_differences.ensures in
+    c.requires.3 c.requires.0.copy_room c.requires.0.difference_room c.all_differences.ensures in
     let across : c.args.left + c.extent-width.result / 4 ≤ c.args.map_columns =
     omega (arith, c.extent-width.ensures, c.requires.4.across) in
     let next : c.args.top + (c.loop-row.row + 1) ≡ c.args.top + c.loop-row.row + 1 = omega arith in

@@ -9,4 +9,4 @@ returns c =
     let h = paint_of c.second_differences-2.ensures in
     let d0 = paint_of c.second_differences-3.ensures in
     let d1 = paint_of c.second_differences-4.ensures in
-    (all_length _ _ _ c.requires.2 c.requires.4 v h d0 d1, all_written _ _ _ c.requires.2 c.requires.4 v h d0 d1)
+    (all_length _ _ _ c.requires.2 c.requires.3 v h d0 d1, all_written _ _ _ c.requires.2 c.requires.3 v h d0 d1)

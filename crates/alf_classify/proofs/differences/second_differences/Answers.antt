@@ -1,4 +1,4 @@
-use Rattle.std.proofs.Common.{◌≡◌, ◌+◌, ◌-◌, ◌∙◌, ℕ, ap, arith}
+use Rattle.std.proofs.Common.{◌≡◌, ◌+◌, ◌-◌, ◌∙◌, ℕ, length, ap, arith}
 use Rattle.alf_lists.proofs.Painted.{paint_is, paint_none, paint_set}
 use Rattle.alf_lists.proofs.Regions.{run_none, run_more}
 use Rattle.alf_classify.specs.Windows.{difference_at}
@@ -15,5 +15,5 @@ loop-x-preserved c =
 
 pub returns : goal.returns
 returns c =
-    let all : c.loop-x.x ≡ c.args.n - (c.args.margin + c.args.margin) = omega arith in
+    let all : c.loop-x.x ≡ length c.args.copy.now - (c.args.margin + c.args.margin) = omega arith in
     rw all at (paint_is c.loop-x.invariant)
