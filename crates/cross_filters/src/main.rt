@@ -60,6 +60,7 @@ fn read_full<R: Read>(input: &mut R, room: &mut [u8]) -> io::Result<usize>
     ensures bytes { IfOk result (λ n. Consumes (R.remaining input.old) (R.remaining input.new) (take n room.new)) }
     ensures all { IfOk result (λ n. n < length room.new → IsAtEnd (R.remaining input.new)) }
 {
+    // stays a `while`: a read adds as many bytes as it has, not one, and the end of the input is no error here
     let mut n = 0;
     while n < room.len() {
         let read = input.read(&mut room[n..])?;
