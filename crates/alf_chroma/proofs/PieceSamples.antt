@@ -145,7 +145,8 @@ module _ (i : Input) {p : Picture} {c : Ctb} {s : Sides} (ctb : CtbOf i.layout p
       unfolding piece_sample chroma_copy_sample chroma_with
       with_same {filters} {taps} F S =
           let inside : column < extent columns = omega arith in
-          let numbers = taps_same 6 (get_or copy (starts.here + column + 3) 0) (copy_plus copy starts column) (copy_minus copy starts column)
+          let numbers = taps_same 6 (get_or copy (starts.here + column + 3) 0)
+          (copy_plus copy starts column) (copy_minus copy starts column)
           (λ j h. S.coefficients j column h inside ∙ F.coefficients j h) (λ j h. S.clips j column h inside ∙ F.clips j h) in
           rw (own, here, plus_same, minus_same)
           (ap (λ (z : ℤ). filtered i.layout.picture.bit_depth r.shift (get_or copy (starts.here + column + 3) 0) z) numbers)

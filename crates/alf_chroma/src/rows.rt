@@ -12,9 +12,9 @@ use alf_spec::ChromaRows;
 fn chroma_rows(line: bool, distance: u32) -> ChromaRows
     ensures { result ≡ chroma_rows line distance }
 {
-    let (y1, y2, shift) = match distance {
-        2 | 3 if line => (0, 0, 10),
-        1 | 4 if line => (1, 1, 7),
+    let (y1, y2, shift) = match (line, distance) {
+        (true, 2 | 3) => (0, 0, 10),
+        (true, 1 | 4) => (1, 1, 7),
         _ => (1, 2, 7),
     };
     ChromaRows { y1, y2, shift }

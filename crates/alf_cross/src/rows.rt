@@ -14,9 +14,9 @@ use alf_spec::CrossRows;
 fn cross_rows(line: bool, distance: u32) -> CrossRows
     ensures { result ≡ cross_rows line distance }
 {
-    let (y1, y2) = match distance {
-        5 | 4 if line => (0, 0),
-        6 | 3 if line => (1, 1),
+    let (y1, y2) = match (line, distance) {
+        (true, 5 | 4) => (0, 0),
+        (true, 6 | 3) => (1, 1),
         _ => (1, 2),
     };
     CrossRows { y1, y2 }

@@ -3,8 +3,8 @@ use Rattle.std.proofs.Common.{◌≡◌, ◌/◌, length, inr, arith}
 use Rattle.alf_math.proofs.Grids.{depth_bounds}
 use Rattle.alf_lists.proofs.Painted.{paint_is, paint_none, paint_call}
 use Rattle.alf_lists.proofs.Regions.{rect_none, rect_more}
-use Rattle.alf_chroma.proofs.PieceRows.{Begun, row-ratio, narrow, last-column, in_plane_lem, row_small, row_reads, row_room_lem, row_sample_lem}
-use Rattle.alf_chroma.proofs.PieceRows.{Bounds, row_bounds}
+use Rattle.alf_chroma.proofs.PieceRows.{Begun, row-ratio, narrow, last-column, in_plane_lem, row_small}
+use Rattle.alf_chroma.proofs.PieceRows.{Bounds, row_bounds, row_reads, row_room_lem, row_sample_lem}
 use Rattle.alf_chroma.proofs.piece.filter_rows.Goals as goal
 use Rattle.alf_chroma.proofs.piece.filter_rows.Goals.{After-sub_height-ratio, After-rows_at-offsets}
 
@@ -57,7 +57,8 @@ chroma_row-requires c =
     let at = c.plane_index.ensures in
     let reads = row_reads B c.loop-y.y y c.loop-y-test.true _ c.rows_at-offsets.ensures _ at in
     let room = row_room_lem B c.loop-y.y y c.loop-y-test.true _ c.rows_at-offsets.ensures _ at in
-    (rw c.chroma_starts.ensures reads, omega (arith, c.extent-n.ensures, c.requires.across.small), omega (arith, room, c.loop-y.invariant.len))
+    let few = c.requires.across.small in
+    (rw c.chroma_starts.ensures reads, omega (arith, c.extent-n.ensures, few), omega (arith, room, c.loop-y.invariant.len))
 
 pub loop-y-preserved : goal.loop-y-preserved
 loop-y-preserved c =

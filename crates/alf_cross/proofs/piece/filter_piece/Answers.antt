@@ -52,8 +52,6 @@ piece_rows-requires c =
     let fits = room at.Start in
     let split = rw (c.extent.ensures, c.extent-then-sub_width-eq2.ensures) at c.split_rows.ensures in (
       c.requires.0.planes,
-      c.requires.1,
-      c.requires.2,
       split_small half (omega arith) (even at.Start) split (copied at.After-copy_piece fits.0)
           (omega (arith, fits.1, c.split_rows.auto.split)),
     )
@@ -61,7 +59,7 @@ piece_rows-requires c =
 pub piece_rows-requires-else-sub_width-eq2 : goal.piece_rows-requires-else-sub_width-eq2
 piece_rows-requires-else-sub_width-eq2 c =
     let at = goal.at.piece_rows-requires-else-sub_width-eq2 c in
-    (c.requires.0.planes, c.requires.1, c.requires.2, copied at.After-copy_piece (room at.Start).0)
+    (c.requires.0.planes, copied at.After-copy_piece (room at.Start).0)
 
 pub returns-then-sub_width-eq2 : goal.returns-then-sub_width-eq2
 returns-then-sub_width-eq2 c =

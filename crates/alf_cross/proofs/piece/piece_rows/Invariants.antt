@@ -9,8 +9,9 @@ use Rattle.alf_cross.proofs.piece.piece_rows.Given as goal
 
 abbrev pub invariant-loop-v : goal.invariant-loop-v
 invariant-loop-v l =
-    let p = l.picture in
-    let from = l.columns.start / sub_width p in
+    let a = l.piece in
+    let p = a.picture in
+    let from = a.columns.start / sub_width p in
     Paint l.initial.output
-    (in_rect (p.width / sub_width p) from (from + extent l.columns / sub_width p) (l.rows.start / sub_height p) l.v)
-    (split_cross_at p l.grid.ctb l.fn.filters l.fn.split l.fn.chroma l.columns l.rows) l.output
+    (in_rect (p.width / sub_width p) from (from + extent a.columns / sub_width p) (a.rows.start / sub_height p) l.v)
+    (split_cross_at p a.grid.ctb l.fn.filters l.fn.split l.fn.chroma a.columns a.rows) l.output
