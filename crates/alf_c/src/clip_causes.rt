@@ -21,17 +21,17 @@ fn without_room(number: u8) -> u8
     }
 }
 
-// Writes the causes by number, top, bottom, left and right, where the list has room for these four.
+// Writes the causes by number, top, bottom, left and right, to a list that has room for these four.
 fn write_causes(named: SideCauses, causes: &mut [u8])
-    ensures { causes.new ≡ cond (eqb (length causes.old) 4) (cause_numbers named) causes.old }
+    requires { length causes.old ≡ 4 }
+    ensures { causes.new ≡ cause_numbers named }
 {
-    if causes.len() != 4 {
-        return;
-    }
-    causes[0] = cause_number(named.top);
-    causes[1] = cause_number(named.bottom);
-    causes[2] = cause_number(named.left);
-    causes[3] = cause_number(named.right);
+    causes.copy_from_slice(&[
+        cause_number(named.top),
+        cause_number(named.bottom),
+        cause_number(named.left),
+        cause_number(named.right),
+    ]);
 }
 
 // The number of the lowest fault, and `causes` stays as it was; or 0, and it has the causes on the four sides of the luma sample at column
