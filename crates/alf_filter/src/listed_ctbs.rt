@@ -9,7 +9,8 @@ ghost use Rattle.alf_filter.specs.FilteredCtbs.{is_listed, on_mark};
 use alf_ctb::is_on;
 use alf_spec::{Filter, FilterInput};
 
-// A 1 for each CTB that is listed and on, a 0 for each that is listed and off.
+// A 1 for each CTB that is listed and on, a 0 for each that is listed and off. A mark stays a number: the definition of what is written,
+// `painted`, is one of lists of numbers.
 pub(crate) fn mark_listed(filter: Filter, input: &FilterInput, marks: &mut [u8])
     requires { (ComponentOf filter) × ((j : ℕ) → j < length input.now.ctb_list
         → (get_or input.now.ctb_list j 0 < length marks.old)

@@ -8,7 +8,7 @@ ghost use Rattle.alf_ctb.specs.Filters.{plane_filtered};
 
 use crate::ctbs::filter_marked;
 use crate::listed_ctbs::mark_listed;
-use alf_luma::{ORDERS, tap_orders};
+use alf_luma::tap_orders;
 use alf_math::grid::grid;
 use alf_sides::{CTBS, plan_sides};
 use alf_spec::{Filter, FilterInput};
@@ -36,8 +36,7 @@ pub fn filter_plane(filter: Filter, input: &FilterInput, output: &mut [u16])
     plan_sides(layout, grid, &mut sides);
     let mut marks: [u8; CTBS] = [0; CTBS];
     mark_listed(filter, input, &mut marks);
-    let mut orders: [u8; ORDERS] = [0; ORDERS];
-    tap_orders(&mut orders);
+    let orders = tap_orders();
     copy_input(filter, input, output);
     filter_marked(filter, input, grid, &orders, &sides, &marks, output);
 }

@@ -14,7 +14,7 @@ use alf_taps::COLUMNS;
 const NUMBERS: usize = 24;
 
 // How many numbers the tap orders of the four transposes have.
-pub const ORDERS: usize = 96;
+const ORDERS: usize = 96;
 
 // Which of a filter's numbers is number j in the order of a transpose.
 #[tactic(auto, unfolding(crate::specs::SpreadFilters::tap_index))]
@@ -30,13 +30,14 @@ fn tap_index(transpose: usize, j: usize) -> usize
 }
 
 // The tap order as a table that kernels can read from memory: a constant table would be copied at every use.
-pub fn tap_orders(orders: &mut [u8])
-    requires { length orders.old ≡ 96 }
-    ensures { TapOrders orders.new }
+pub fn tap_orders() -> [u8; ORDERS]
+    ensures { TapOrders result }
 {
+    let mut orders = [0; ORDERS];
     for k in 0..ORDERS {
         orders[k] = tap_index(k / NUMBERS, k % NUMBERS) as u8;
     }
+    orders
 }
 
 // A filter over the four columns of a block from column `to` on; the order of its transpose begins at index `at` of the tap orders.

@@ -13,11 +13,7 @@ use alf_validate::judge_filter;
 
 // The lowest fault of the input, and the output stays as it was; or the output is the plane that the filter filters, with each listed CTB
 // whose flag or index is on filtered. What the filter is not given plays no part.
-pub fn filter_picture(
-    filter: Filter,
-    input: &FilterInput,
-    output: &mut [u16],
-) -> Result<(), Fault>
+pub fn filter_picture(filter: Filter, input: &FilterInput, output: &mut [u16]) -> Result<(), Fault>
     ensures { Ran (operation_of filter) (with_output (length output.old) input.now) (number_of result) output.old
         output.new }
 {

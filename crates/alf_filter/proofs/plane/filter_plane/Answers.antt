@@ -53,7 +53,7 @@ filter_marked-requires c =
     let i = with_output n own in
     let layout : c.input.inside.layout ≡ own.layout = ap (λ (i : Input). i.layout) c.input.view_is in
     let picture : c.layout.inside.picture ≡ own.layout.picture = ap (λ (l : Layout). l.picture) (c.layout.view_is ∙ layout) in (
-      tables_accepted f own n c.requires (rw picture at c.grid-grid.ensures) c.tap_orders.ensures,
+      tables_accepted f own n c.requires (rw picture at c.grid-grid.ensures) c.tap_orders-orders.ensures,
       c.plan_sides.ensures.0 ∙ length-replicate 16384 zero,
       c.mark_listed.ensures.0 ∙ length-replicate 16384 zero,
       marks_on f i (c.mark_listed.ensures.1 i refl),

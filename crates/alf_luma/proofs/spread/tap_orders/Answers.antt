@@ -1,5 +1,6 @@
-use Rattle.std.proofs.Common.{◌+◌, ◌*◌, ◌∙◌, arith}
+use Rattle.std.proofs.Common.{zero, ◌+◌, ◌*◌, ◌∙◌, arith}
 use mathlib.Core.Path.{ap₂}
+use lib.ListN.{length-replicate}
 use Rattle.alf_lists.proofs.Painted.{paint_none, paint_set, paint_in}
 use Rattle.alf_lists.proofs.Regions.{run_none, run_next, in_run}
 use Rattle.alf_luma.specs.SpreadFilters.{tap_index}
@@ -16,7 +17,7 @@ pub returns : goal.returns
 returns c =
     let inv = c.loop-k.invariant in
     record {
-      count = omega (arith, inv.len);
+      count = omega (arith, inv.len, length-replicate 96 zero);
       entries = λ t j ht hj.
           paint_in inv (24 * t + j) (omega arith) (in_run 0 c.loop-k.k (24 * t + j) (omega arith))
           ∙ ap₂ tap_index (omega arith) (omega arith);
