@@ -33,14 +33,14 @@ use Rattle.alf_ctb.specs.FilterWork.{PlanesGiven, FilterRooms, Numbers, PieceFil
 
 -- ---- what they are given
 
-module _ {f : Filter} {i : Input} {g : Grid} {orders : List ℕ} (filters : List ℤ) {taps : List ℤ} {output : ℕ}
-    (is_input : PlanesGiven f i g orders) (is_numbers : Numbers f filters) (is_rooms : FilterRooms f i.layout.picture taps output) where
+module _ {f : Filter} {i : Input} {g : Grid} {orders : List ℕ} (filters : List ℤ) {copy differences : ℕ} {taps : List ℤ} {output : ℕ}
+    (is_input : PlanesGiven f i g orders) (is_numbers : Numbers f filters) (is_rooms : FilterRooms f i.layout.picture copy differences taps output) where
   -- by the name that the filter turns out to have
   by_name : {name : Filter} → f ≡ name
-      → PlanesGiven name i g orders × Numbers name filters × FilterRooms name i.layout.picture taps output
+      → PlanesGiven name i g orders × Numbers name filters × FilterRooms name i.layout.picture copy differences taps output
   by_name e = rw (← e) (is_input, is_numbers, is_rooms)
 
-  pub luma_work : f ≡ Luma → LumaPieceInput i.layout.picture g i.luma filters orders taps output
+  pub luma_work : f ≡ Luma → LumaPieceInput i.layout.picture g i.luma filters orders copy differences taps output
   luma_work e =
       let (given, numbers, rooms) = by_name e in
       record {
@@ -53,11 +53,12 @@ module _ {f : Filter} {i : Input} {g : Grid} {orders : List ℕ} (filters : List
         };
         luma_length = given.luma_length refl;
         samples = given.luma refl;
+        copy_room = rooms.copy_room;
+        difference_room = rooms.difference_room;
       }
 
-  pub chroma_work : {copy component : ℕ} → f ≡ Chroma component → area ≤ copy
-      → ChromaWork i.layout.picture g i.chroma filters copy taps output
-  chroma_work e room =
+  pub chroma_work : {component : ℕ} → f ≡ Chroma component → ChromaWork i.layout.picture g i.chroma filters copy taps output
+  chroma_work e =
       let (given, numbers, rooms) = by_name e in
       record {
         picture = given.picture;
@@ -67,13 +68,13 @@ module _ {f : Filter} {i : Input} {g : Grid} {orders : List ℕ} (filters : List
         filter_length = numbers.count;
         coefficients = numbers.coefficients;
         clips = numbers.clips;
-        copy_room = room;
+        copy_room = rooms.copy_room;
         numbers = rooms.spread;
       }
 
-  pub cross_work : {copy split component : ℕ} → f ≡ CrossComponent component → area ≤ copy → 4 * area ≤ split
-      → CrossWork i.layout.picture g i.luma i.chroma filters copy split output
-  cross_work e room more =
+  pub cross_work : {component : ℕ} → f ≡ CrossComponent component
+      → CrossWork i.layout.picture g i.luma i.chroma filters copy differences output
+  cross_work e =
       let (given, numbers, rooms) = by_name e in
       record {
         planes = record {
@@ -86,8 +87,8 @@ module _ {f : Filter} {i : Input} {g : Grid} {orders : List ℕ} (filters : List
         };
         luma_length = given.luma_length refl;
         luma_samples = given.luma refl;
-        copy_room = room;
-        split_room = omega (arith, more);
+        copy_room = rooms.copy_room;
+        split_room = omega (arith, rooms.difference_room);
       }
 
 -- a piece of whole blocks in the samples of a chroma plane

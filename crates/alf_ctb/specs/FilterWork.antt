@@ -16,6 +16,7 @@ use Rattle.alf_pieces.specs.declared.pieces.Piece.{Piece}
 use Rattle.alf_pieces.specs.declared.walks.CtbWalk.{CtbWalk}
 use Rattle.alf_pieces.specs.Pieces.{PieceOf, CtbOf}
 use Rattle.alf_pieces.specs.Walks.{Axes, PiecesAlong, in_piece, in_walk, passed}
+use Rattle.alf_pieces.specs.Copies.{area}
 use Rattle.alf_taps.specs.Spread.{TapNumbers}
 use Rattle.alf_params.specs.Filters.{FilterNumbers}
 use Rattle.alf_luma.specs.SpreadFilters.{TapOrders}
@@ -34,8 +35,10 @@ pub record PlanesGiven (f : Filter) (i : Input) (g : Grid) (orders : List ℕ) :
   pub chroma : (given (operation_of f)).chroma ≡ true → (k : ℕ) → get_or i.chroma k 0 < 4096
   pub order : TapOrders orders
 
--- what it works in: the spread numbers of a filter, and an output of the plane's size
-pub record FilterRooms (f : Filter) (p : Picture) (taps : List ℤ) (output : ℕ) : Type 0 where
+-- what it works in: room for the copy of a piece and for its differences, the spread numbers of a filter, and an output of the plane's size
+pub record FilterRooms (f : Filter) (p : Picture) (copy differences : ℕ) (taps : List ℤ) (output : ℕ) : Type 0 where
+  pub copy_room : area ≤ copy
+  pub difference_room : 4 * area ≤ differences
   pub spread : TapNumbers taps
   pub output_length : output ≡ (p.width / column_ratio f p) * (p.height / row_ratio f p)
 

@@ -6,7 +6,6 @@ ghost use Rattle.alf_ctb.specs.Filters.{walk_line};
 ghost use Rattle.alf_ctb.specs.FilterWork.{PlanesGiven, FilterRooms, Numbers, AxesFiltered, in_filtered};
 
 use crate::pieces::filter_piece;
-use alf_luma::Rooms;
 use alf_pieces::walks::{CtbAxes, first_piece, next_piece};
 use alf_spec::{Filter, FilterInput, Grid, Sides};
 
@@ -31,14 +30,16 @@ pub fn filter_ctb(
     axes: &CtbAxes,
     filters: &[i16],
     orders: &[u8],
-    rooms: &mut Rooms,
+    copy: &mut [u16],
+    differences: &mut [u16],
+    taps: &mut [i16],
     output: &mut [u16],
 )
     requires { let picture = input.now.layout.picture in (PlanesGiven filter input.now grid orders.now) × (Numbers filter filters.now)
-        × (FilterRooms filter picture rooms.old.taps (length output.old))
+        × (FilterRooms filter picture (length copy.old) (length differences.old) taps.old (length output.old))
         × (AlongAxes axes.now) × (axes.now.columns.size ≡ picture.width) × (axes.now.rows.size ≡ picture.height) }
     ensures { (AxesFiltered filter input.now sides axes.now filters.now (in_filtered filter input.now.layout.picture axes.now)
-        output.old output.new) × (TapNumbers rooms.new.taps) }
+        output.old output.new) × (TapNumbers taps.new) }
 {
     let mut at = Some(first_piece(axes));
     while let Some(piece) = at {
@@ -51,7 +52,9 @@ pub fn filter_ctb(
             piece.rows,
             filters,
             orders,
-            rooms,
+            copy,
+            differences,
+            taps,
             output,
         );
         at = next_piece(axes, piece);

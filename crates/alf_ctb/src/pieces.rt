@@ -4,7 +4,6 @@ ghost use Rattle.alf_pieces.specs.Pieces.{BlockPiece};
 ghost use Rattle.alf_taps.specs.Spread.{TapNumbers};
 ghost use Rattle.alf_ctb.specs.FilterWork.{PlanesGiven, FilterRooms, Numbers, PieceFiltered};
 
-use alf_luma::Rooms;
 use alf_math::grid::{sub_height, sub_width};
 use alf_pieces::pieces::{Piece, scaled};
 use alf_spec::{Filter, FilterInput, Grid, Sides};
@@ -20,20 +19,33 @@ pub fn filter_piece(
     rows: Piece,
     filters: &[i16],
     orders: &[u8],
-    rooms: &mut Rooms,
+    copy: &mut [u16],
+    differences: &mut [u16],
+    taps: &mut [i16],
     output: &mut [u16],
 )
     requires { let picture = input.now.layout.picture in (PlanesGiven filter input.now grid orders.now) × (Numbers filter filters.now)
-        × (FilterRooms filter picture rooms.old.taps (length output.old))
+        × (FilterRooms filter picture (length copy.old) (length differences.old) taps.old (length output.old))
         × (BlockPiece picture.width columns) × (BlockPiece picture.height rows) }
     ensures { (PieceFiltered filter input.now sides columns rows filters.now output.old output.new)
-        × (TapNumbers rooms.new.taps) }
+        × (TapNumbers taps.new) }
 {
     let picture = input.layout.picture;
     match filter {
         Filter::Luma => {
             alf_luma::filter_piece(
-                picture, grid, sides, columns, rows, input.luma, filters, orders, rooms, output,
+                picture,
+                grid,
+                sides,
+                columns,
+                rows,
+                input.luma,
+                filters,
+                orders,
+                copy,
+                differences,
+                taps,
+                output,
             );
         }
         Filter::Chroma(_) => {
@@ -45,8 +57,8 @@ pub fn filter_piece(
                 scaled(rows, sub_height(picture)),
                 input.chroma,
                 filters,
-                &mut rooms.copy,
-                &mut rooms.taps,
+                copy,
+                taps,
                 output,
             );
         }
@@ -61,8 +73,8 @@ pub fn filter_piece(
                 input.luma,
                 input.chroma,
                 filters,
-                &mut rooms.copy,
-                &mut rooms.differences,
+                copy,
+                differences,
                 output,
             );
         }

@@ -11,7 +11,6 @@ ghost use Rattle.alf_filter.specs.FilteredCtbs.{is_marked, MarksOn, CtbFiltered,
 
 use alf_classify::AREA;
 use alf_ctb::{filter_ctb, load, walk_line};
-use alf_luma::Rooms;
 use alf_pieces::walks::CtbAxes;
 use alf_sides::sides_at;
 use alf_spec::{Filter, FilterInput, Grid};
@@ -34,14 +33,16 @@ fn filter_address(
     sides: &[u16],
     marks: &[u8],
     k: u32,
-    rooms: &mut Rooms,
+    copy: &mut [u16],
+    differences: &mut [u16],
+    taps: &mut [i16],
     output: &mut [u16],
 )
     requires { (TablesAccepted filter input.now grid orders.now) × (k < grid.columns * grid.rows) × (k < length sides.now)
         × (k < length marks.now) × (MarksOn filter input.now.ctb_params marks.now)
-        × (FilterRooms filter input.now.layout.picture rooms.old.taps (length output.old)) }
+        × (FilterRooms filter input.now.layout.picture (length copy.old) (length differences.old) taps.old (length output.old)) }
     ensures { ((i : Input) → TablesIn filter i input.now → SidesPlanned i.layout sides.now
-        → CtbFiltered filter i marks.now k output.old output.new) × (TapNumbers rooms.new.taps) }
+        → CtbFiltered filter i marks.now k output.old output.new) × (TapNumbers taps.new) }
 {
     if !is_marked(marks, k) {
         return;
@@ -51,7 +52,17 @@ fn filter_address(
     load(filter, input, k as usize, &mut filters);
     let axes = CtbAxes::through(&input.layout, grid, own_sides, walk_line(filter), k);
     filter_ctb(
-        filter, input, grid, own_sides, &axes, &filters, orders, rooms, output,
+        filter,
+        input,
+        grid,
+        own_sides,
+        &axes,
+        &filters,
+        orders,
+        copy,
+        differences,
+        taps,
+        output,
     );
 }
 
@@ -71,14 +82,22 @@ pub(crate) fn filter_marked(
     ensures { (i : Input) → TablesIn filter i input.now → SidesPlanned i.layout sides.now
         → MarkedFiltered filter i marks.now output.old output.new }
 {
-    let mut rooms = Rooms {
-        copy: [0; AREA],
-        differences: [0; 4 * AREA],
-        taps: [0; SPREAD],
-    };
+    let mut copy: [u16; AREA] = [0; AREA];
+    let mut differences: [u16; 4 * AREA] = [0; 4 * AREA];
+    let mut taps: [i16; SPREAD] = [0; SPREAD];
     for k in 0..grid.columns * grid.rows {
         filter_address(
-            filter, input, grid, orders, sides, marks, k, &mut rooms, output,
+            filter,
+            input,
+            grid,
+            orders,
+            sides,
+            marks,
+            k,
+            &mut copy,
+            &mut differences,
+            &mut taps,
+            output,
         );
     }
 }

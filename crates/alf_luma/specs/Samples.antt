@@ -12,7 +12,7 @@ use Rattle.alf_spec.specs.Process.{class_number}
 use Rattle.alf_math.specs.Grids.{AcceptedPicture}
 use Rattle.alf_pieces.specs.declared.pieces.Piece.{Piece}
 use Rattle.alf_pieces.specs.Pieces.{BlockPiece}
-use Rattle.alf_pieces.specs.Copies.{extent, pitch, copy_length}
+use Rattle.alf_pieces.specs.Copies.{extent, pitch, copy_length, area}
 use Rattle.alf_classify.specs.Windows.{copy_window}
 use Rattle.alf_classify.specs.PieceClasses.{row_window}
 use Rattle.alf_taps.specs.Spread.{TapNumbers}
@@ -93,7 +93,9 @@ pub record PieceCopy (p : Picture) (columns rows : Piece) (copy : List ℕ) : Ty
 
 -- what a piece is filtered with: what each of its rows of blocks is, and the picture's luma samples
 pub record LumaPieceInput (p : Picture) (g : Grid) (luma : List ℕ) (filters : List ℤ) (orders : List ℕ)
-    (taps : List ℤ) (output : ℕ) : Type 0 where
+    (copy differences : ℕ) (taps : List ℤ) (output : ℕ) : Type 0 where
   pub blocks : BlockRowInput p g filters orders taps output
   pub luma_length : length luma ≡ p.width * p.height
   pub samples : (k : ℕ) → get_or luma k 0 < 4096
+  pub copy_room : area ≤ copy
+  pub difference_room : 4 * area ≤ differences

@@ -6,5 +6,5 @@ mod piece;
 mod rows;
 mod spread;
 
-pub use piece::{Rooms, filter_piece};
+pub use piece::filter_piece;
 pub use spread::tap_orders;

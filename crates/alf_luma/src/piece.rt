@@ -145,15 +145,6 @@ fn filter_copy(
     }
 }
 
-// What a filter works in from one piece to the next: the copy of a piece, its second differences, and the numbers of filters, spread over
-// columns.
-#[derive(Drop)]
-pub struct Rooms {
-    pub copy: [u16; AREA],
-    pub differences: [u16; 4 * AREA],
-    pub taps: [i16; SPREAD],
-}
-
 // The samples of a piece, filtered: those of every input in which a CTB has these sides and these filters, and the piece is one of its
 // pieces.
 pub fn filter_piece(
@@ -165,10 +156,13 @@ pub fn filter_piece(
     luma: &[u16],
     filters: &[i16],
     orders: &[u8],
-    rooms: &mut Rooms,
+    copy: &mut [u16],
+    differences: &mut [u16],
+    taps: &mut [i16],
     output: &mut [u16],
 )
-    requires { (LumaPieceInput picture grid luma.now filters.now orders.now rooms.old.taps (length output.old))
+    requires { (LumaPieceInput picture grid luma.now filters.now orders.now (length copy.old) (length differences.old) taps.old
+        (length output.old))
         × (BlockPiece picture.width columns) × (BlockPiece picture.height rows) }
     ensures { ((i : Input) (c : Ctb) → CtbOf i.layout picture c sides → i.luma ≡ luma.now
         → LumaFilters i c filters.now
@@ -176,33 +170,24 @@ pub fn filter_piece(
         → PieceOf (luma_plane i.layout).rows (row_side i.layout c) c.row rows
         → output.new ≡ painted output.old
         (in_rect picture.width columns.start columns.end rows.start rows.end)
-        (at_index (luma_plane i.layout) (luma_sample i))) × (TapNumbers rooms.new.taps) }
+        (at_index (luma_plane i.layout) (luma_sample i))) × (TapNumbers taps.new) }
 {
     let width = picture.width as usize;
-    copy_piece(luma, width, columns, rows, sides, &mut rooms.copy);
+    copy_piece(luma, width, columns, rows, sides, copy);
     let mut map: [u8; 1024] = [0; 1024];
     piece_classes(
         picture,
         grid,
         columns,
         rows,
-        &rooms.copy,
-        &mut rooms.differences,
+        copy,
+        differences,
         &mut map,
         BLOCKS,
         0,
         0,
     );
     filter_copy(
-        picture,
-        grid,
-        columns,
-        rows,
-        filters,
-        orders,
-        &map,
-        &rooms.copy,
-        &mut rooms.taps,
-        output,
+        picture, grid, columns, rows, filters, orders, &map, copy, taps, output,
     );
 }

@@ -8,7 +8,7 @@ use Rattle.alf_ctb.proofs.ctbs.filter_ctb.Given as goal
 abbrev pub invariant-loop-at : goal.invariant-loop-at
 invariant-loop-at l = record {
   stands : Stands l.axes l.at;
-  numbers : TapNumbers l.rooms.taps;
+  numbers : TapNumbers l.taps;
   filtered : AxesFiltered l.filter l.input l.sides l.axes l.filters (passed_by l.filter l.input.layout.picture l.axes l.at)
       l.initial.output l.output;
 }

@@ -15,9 +15,8 @@ filter_piece-requires c =
 pub filter_piece-requires-in-Chroma : goal.filter_piece-requires-in-Chroma
 filter_piece-requires-in-Chroma c =
     let pre = rw (← c.input.view_is, ← c.input-inside.view_is) at c.requires in
-    let large : area ≤ length c.args.rooms.now.copy = omega arith in
     rw (c.scaled.ensures, c.sub_width.ensures.0, c.scaled-in-Chroma.ensures, c.sub_height.ensures.0) (
-      chroma_work _ pre.0 pre.1 pre.2 c.in-Chroma.is large,
+      chroma_work _ pre.0 pre.1 pre.2 c.in-Chroma.is,
       scaled_in (chroma_ratios _).0 pre.3,
       scaled_in (chroma_ratios _).1 pre.4,
     )
@@ -25,9 +24,7 @@ filter_piece-requires-in-Chroma c =
 pub filter_piece-requires-in-CrossComponent : goal.filter_piece-requires-in-CrossComponent
 filter_piece-requires-in-CrossComponent c =
     let pre = rw (← c.input.view_is, ← c.input-inside.view_is) at c.requires in
-    let large : area ≤ length c.args.rooms.now.copy = omega arith in
-    let more : 4 * area ≤ length c.args.rooms.now.differences = omega arith in
-    (cross_work _ pre.0 pre.1 pre.2 c.in-CrossComponent.is large more, pre.3, pre.4)
+    (cross_work _ pre.0 pre.1 pre.2 c.in-CrossComponent.is, pre.3, pre.4)
 
 pub returns-in-Luma : goal.returns-in-Luma
 returns-in-Luma c = (

@@ -18,7 +18,12 @@ filter_address-requires c =
       omega (arith, few),
       omega (arith, few),
       c.requires.3,
-      record { spread = c.loop-k.invariant.numbers; output_length = c.loop-k.auto.output ∙ c.requires.4 },
+      record {
+        copy_room = omega arith;
+        difference_room = omega arith;
+        spread = c.loop-k.invariant.numbers;
+        output_length = c.loop-k.auto.output ∙ c.requires.4;
+      },
     )
 
 pub loop-k-preserved : goal.loop-k-preserved

@@ -13,7 +13,7 @@ use Rattle.alf_filter.proofs.ctbs.filter_marked.Given as goal
 -- the marked CTBs before address k are filtered
 abbrev pub invariant-loop-k : goal.invariant-loop-k
 invariant-loop-k l = record {
-  numbers : TapNumbers l.rooms.taps;
+  numbers : TapNumbers l.taps;
   painted : (i : Input) → TablesIn l.filter i l.input → SidesPlanned i.layout l.sides
       → let plane = output_plane (operation_of l.filter) i.layout in
       Paint l.initial.output (before_ctb_if i.layout plane (is_marked l.marks) l.k) (at_index plane (sample_of l.filter i)) l.output;

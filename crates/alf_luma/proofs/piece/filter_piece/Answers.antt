@@ -18,7 +18,7 @@ piece_classes-requires c =
     let pre = c.requires in
     let columns = blocks pre.1 in
     let rows = blocks pre.2 in
-    let large : area ≤ length c.args.rooms.now.copy = omega arith in (
+    let large : area ≤ length c.args.copy.now = omega arith in (
       record {
         picture = pre.0.blocks.picture;
         copy_room = rw (paint_of c.copy_piece.ensures).len large;
@@ -38,7 +38,7 @@ piece_classes-requires c =
 pub filter_copy-requires : goal.filter_copy-requires
 filter_copy-requires c =
     let pre = c.requires in
-    let large : area ≤ length c.args.rooms.now.copy = omega arith in
+    let large : area ≤ length c.args.copy.now = omega arith in
     let room = copy_fits pre.1.numbers pre.2.numbers large in (
       pre.0.blocks,
       record {
@@ -55,7 +55,7 @@ pub returns : goal.returns
 returns c =
     let pre = c.requires in
     let done = c.filter_copy.ensures in
-    let large : area ≤ length c.args.rooms.now.copy = omega arith in
+    let large : area ≤ length c.args.copy.now = omega arith in
     let room = copy_fits pre.1.numbers pre.2.numbers large in (
       (λ i ctb of same own across down.
           paint_is (paint_same (paint_of done.0) (λ k h. refl)
