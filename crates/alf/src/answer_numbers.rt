@@ -4,7 +4,7 @@ ghost use Rattle.alf_spec.specs.Answers.{fault_number, number_of};
 
 use alf_spec::Fault;
 
-// The number of a fault, 1 to 18.
+// The number of a fault, 1 to 18: a table and no cast, since the papers number the faults and not the order of the cases.
 pub fn fault_number(fault: Fault) -> u8
     ensures { result ≡ fault_number fault }
 {

@@ -54,7 +54,7 @@ pub fn row_axis(picture: Picture, grid: Grid, sides: Sides, line: u32, q: u32) -
     }
 }
 
-// The clip position with its cause, where the test passes.
+// The clip position with its cause, where the test passes: the one place where a test and what it guards stay side by side.
 fn only_if(test: bool, cause: ClipCause, at: u32) -> Option<Clip>
     ensures { clip_of result ≡ only test cause at }
 {
@@ -71,7 +71,8 @@ pub fn cause_of(found: Option<Clip>) -> ClipCause
     found.map_or(ClipCause::Open, |clip| clip.cause)
 }
 
-// Whether a virtual boundary is near x on that side: 0 to 2 before x or at it, or 1 to 4 after x.
+// Whether a virtual boundary is near x on that side: 0 to 2 before x or at it, or 1 to 4 after x. A side stays a bool here and below, true
+// for the one after x: the definitions name the sides (side_of), and an enum in code would say it a third time.
 fn is_near(after: bool, x: u32, boundary: u32) -> bool
     ensures { result ≡ near (side_of after) x boundary }
 {

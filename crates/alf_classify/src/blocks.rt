@@ -141,7 +141,8 @@ fn map_index(map_columns: usize, left: usize, top: usize, row: u32) -> usize
 }
 
 // The classes of the blocks of a piece, from its copy. They go to a map whose rows have `map_columns` blocks, that of the picture or one of
-// the caller's own; the piece's first block stands at its column `left` and row `top`.
+// the caller's own; the piece's first block stands at its column `left` and row `top`. Picture and grid stay two arguments here and of
+// `filter_piece` of each filter: a type that holds the fact about the two would ask more of a caller than they do.
 pub fn piece_classes(
     picture: Picture,
     grid: Grid,

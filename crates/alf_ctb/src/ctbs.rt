@@ -10,7 +10,8 @@ use alf_pieces::walks::{CtbAxes, first_piece, next_piece};
 use alf_spec::{Filter, FilterInput, Grid, Sides};
 
 // How far above a CTB's bottom the line lies at which its pieces end, in luma rows. For chroma they go on over it: no tap of the chroma
-// filter reads across its own line.
+// filter reads across its own line. What a filter does is chosen by a match on `Filter` here, in `pieces` and in `tables`: the kinds are
+// these three, and each arm calls a function of another crate with other arguments, so that a closure would say no less.
 pub fn walk_line(filter: Filter) -> u32
     ensures { result ≡ walk_line filter }
 {
@@ -21,7 +22,8 @@ pub fn walk_line(filter: Filter) -> u32
     }
 }
 
-// The samples of the CTB through which these axes go. The line of the axis of rows is the filter's `walk_line`.
+// The samples of the CTB through which these axes go. The line of the axis of rows is the filter's `walk_line`. The rooms to work in stay
+// three lists: they may be of any length from the limit up, which arrays in a struct could not, and a struct of lent lists is no plainer.
 pub fn filter_ctb(
     filter: Filter,
     input: &FilterInput,

@@ -10,6 +10,7 @@ struct Product {
     low: u32,
 }
 
+// A half has a function of its own, and no cast where it is used: its result shows that a factor has 16 bits.
 fn high_half(n: u32) -> u16
     ensures { result ≡ n / 2 ^ 16 }
 {

@@ -35,7 +35,8 @@ pub fn row_sides(rows: &BlockAxis, sides: Sides, y: u32) -> BlockSides
     }
 }
 
-// The sides of a block, from those of its row: left and right are its own, and the corners count at the CTB's left and right.
+// The sides of a block, from those of its row: left and right are its own, and the corners count at the CTB's left and right. It takes the
+// other two sides from another type than `row_sides` does, so the two stay two.
 #[tactic(auto, unfolding(crate::specs::Steps::block_sides))]
 pub fn block_sides(columns: &BlockAxis, sides: BlockSides, x: u32) -> BlockSides
     requires { x ≤ 512 }

@@ -94,7 +94,8 @@ pub fn luma_run(set: usize) -> ApsRun
     }
 }
 
-// Where the alternative of a chroma component stands: 6 coefficients and 6 clips.
+// Where the alternative of a chroma component stands: 6 coefficients and 6 clips. The runs of the three filters stay three functions, since
+// each is a formula of its own.
 pub fn chroma_run(component: u8, k: usize, input: &FilterInput) -> ApsRun
     requires { (component ≤ 1) × (8 * k + 8 ≤ length input.now.ctb_params) × (ctb_number input.now.ctb_params k (4 + component) ≤ 7) }
     ensures { (result ≡ chroma_run (ctb_number input.now.ctb_params k (4 + component))) × (RunInAps result) }

@@ -17,7 +17,7 @@ fn held(lowest: usize, limit: usize, p: usize) -> usize
     p.clamp(lowest, limit - 1)
 }
 
-// The samples of a piece along its axis.
+// The samples of a piece along its axis. `u32 as usize` stays a cast here and elsewhere: there is no From, as in Rust.
 pub fn extent(piece: Piece) -> usize
     requires { piece.start ≤ piece.end }
     ensures { result ≡ extent_of piece }

@@ -1,5 +1,5 @@
-// What the operations are lent, as the papers group it: the layout, which all of them take, and the input of the filters. Clauses see them as
-// the records `Layout` and `Input` of specs/Input.
+// What the operations are lent, as the papers group it: the layout, which all of them take, and the input of the filters. Clauses see them
+// as the records `Layout` and `Input` of specs/Input.
 ghost use Rattle.alf_spec.specs.Input.{Layout as LayoutValue, layout_of, Input, input_of};
 
 use crate::Picture;
@@ -24,7 +24,8 @@ pub struct Layout<'a> {
 impl<'a> Model for Layout<'a> {
     ghost Value = { LayoutValue };
 
-    ghost view = { λ l. layout_of l.picture l.virtual_columns.now l.virtual_rows.now l.tile_columns.now l.tile_rows.now l.slice_map.now l.subpic_map.now l.subpic_across.now };
+    ghost view = { λ l. layout_of l.picture l.virtual_columns.now l.virtual_rows.now l.tile_columns.now l.tile_rows.now
+        l.slice_map.now l.subpic_map.now l.subpic_across.now };
 }
 
 // What a filter is given. What it does not read may be empty, and plays no part: chroma for luma, luma and the fixed tables for chroma, the
@@ -52,5 +53,6 @@ pub struct FilterInput<'a> {
 impl<'a> Model for FilterInput<'a> {
     ghost Value = { Input };
 
-    ghost view = { λ i. input_of i.layout i.luma.now i.chroma.now i.slice_params.now i.bank.now i.ctb_params.now i.ctb_list.now i.fixed_filters.now i.fixed_map.now 0 };
+    ghost view = { λ i. input_of i.layout i.luma.now i.chroma.now i.slice_params.now i.bank.now i.ctb_params.now
+        i.ctb_list.now i.fixed_filters.now i.fixed_map.now 0 };
 }

@@ -15,7 +15,7 @@ pub struct Picture {
     pub ctb_log2: u8,
     // BitDepth (01: B)
     pub bit_depth: u8,
-    // ChromaArrayType (01: chroma mark): 0 luma alone, 1 4:2:0, 2 4:2:2, 3 4:4:4
+    // ChromaArrayType (01: chroma mark): 0 luma alone, 1 4:2:0, 2 4:2:2, 3 4:4:4. A number, since any other is answered with fault 4.
     pub chroma_format: u8,
     // how many slices have parameters (01: N)
     pub slice_count: u32,
@@ -56,7 +56,7 @@ pub enum Fault {
     FieldOutOfPlace,
 }
 
-// Which filter; a component is 0 (Cb) or 1 (Cr).
+// Which filter; a component is 0 (Cb) or 1 (Cr). A number, since any other is answered with fault 4.
 #[derive(Clone, Copy)]
 pub enum Filter {
     Luma,
@@ -152,7 +152,7 @@ pub struct Sums {
     pub d1: u32,
 }
 
-// Two of these sums whose directions cross: the larger, the smaller, and the larger one's direction.
+// Two of these sums whose directions cross: the larger, the smaller, and the larger one's direction: a number, with which (1500) computes.
 #[derive(Clone, Copy)]
 pub struct Gradient {
     pub large: u32,
@@ -160,7 +160,7 @@ pub struct Gradient {
     pub direction: u32,
 }
 
-// The filter index (class) and the transpose of a 4 by 4 block.
+// The filter index (class) and the transpose of a 4 by 4 block, numbers as in the map: class + 32 * transpose.
 #[derive(Clone, Copy)]
 pub struct Class {
     pub filter: u32,

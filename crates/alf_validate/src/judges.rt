@@ -34,7 +34,7 @@ pub fn judge_classes(layout: &Layout, luma: &[u16], output_length: usize) -> Res
     require(samples_valid(picture, luma), Fault::Sample)
 }
 
-// Cause 4 of a filter: luma has no component to judge.
+// Cause 4 of a filter: luma has no component to judge. A match on `Filter`, here and below: what is judged differs, not how.
 #[tactic(auto, unfolding(alf_spec::specs::Faults::component_valid))]
 fn own_component(filter: Filter, layout: &Layout) -> bool
     ensures { result ≡ component_valid (operation_of filter) layout.now.picture }
