@@ -59,19 +59,20 @@ fn row_start(map: &[u8], columns: usize, rows: usize, y: usize) -> usize
     y * columns
 }
 
-// Whether the rule holds at each corner between row y of the CTBs and the next.
-fn corners_in_row<R: CornerRule>(map: &[u8], columns: usize, rows: usize, y: usize) -> bool
-    requires { (length map.now ≡ columns * rows) × (0 < columns) × (y + 1 < rows) }
-    ensures { result ≡ corners_in_row R.rule map.now columns y }
-{
-    let from = row_start(map, columns, rows, y);
-    (0..columns - 1).all(|x| corner_at::<R>(map, columns, from, x))
-}
-
-// Whether the rule holds at each corner.
+// Whether the rule holds at each corner; the first that breaks it ends both loops.
 pub fn corners_valid<R: CornerRule>(map: &[u8], columns: usize, rows: usize) -> bool
     requires { (length map.now ≡ columns * rows) × (0 < columns) × (0 < rows) }
     ensures { result ≡ all_below (rows - 1) (corners_in_row R.rule map.now columns) }
 {
-    (0..rows - 1).all(|y| corners_in_row::<R>(map, columns, rows, y))
+    let mut good = true;
+    'corners: for y in 0..rows - 1 {
+        let from = row_start(map, columns, rows, y);
+        for x in 0..columns - 1 {
+            good = corner_at::<R>(map, columns, from, x);
+            if !good {
+                break 'corners;
+            }
+        }
+    }
+    good
 }
