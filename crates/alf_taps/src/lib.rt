@@ -4,7 +4,9 @@
 // loop over the columns reads one coefficient and one clip for each tap and sample, and vectors hold eight columns.
 #![tactic(auto)]
 
-ghost use Rattle.std.specs.Prelude.{◌≡◌, ◌+◌, ◌*◌, ◌^◌, ◌≤◌, ◌<◌, length, get_or, pos, nat_abs, ◌+ℤ◌};
+ghost use Rattle.std.specs.Prelude.{◌≡◌, ℕ, ◌+◌, ◌-◌, ◌*◌, ◌^◌, ◌≤◌, ◌<◌, length, get_or, pos, nat_abs, ◌+ℤ◌};
+ghost use Rattle.alf_spec.specs.Lists.{painted};
+ghost use Rattle.alf_lists.specs.Regions.{between};
 ghost use Rattle.alf_spec.specs.Arithmetic.{tap as tap_of};
 ghost use Rattle.alf_taps.specs.Spread.{clips_at, TapNumbers};
 
@@ -16,6 +18,20 @@ pub const COLUMNS: usize = 128;
 pub const CLIPS: usize = 1536;
 
 pub const SPREAD: usize = 3072;
+
+// What a row of samples is filtered from: a piece's copy, where the rows of it begin that the taps of the row read, its filter's spread
+// numbers, how far a sum of taps is shifted, and the bit depth. Luma and chroma each have their own rows.
+#[derive(Drop)]
+pub struct TapSource<'a, S> {
+    pub copy: &'a [u16],
+    pub starts: S,
+    pub taps: &'a [i16],
+    pub shift: u32,
+    pub depth: u32,
+    pub ghost numbers: { TapNumbers taps.now },
+    pub ghost shift_fits: { shift < 32 },
+    pub ghost depth_fits: { depth ≤ 12 },
+}
 
 // A sum with one tap more, of the sample at column x: its two neighbours stand in the rows of the copy that begin at `plus` and at `minus`,
 // in columns i and j from x on; its coefficient in the row that begins at `at`. The places are numbers of their own: in a call the rows are
@@ -46,4 +62,18 @@ pub fn add_tap(
         copy[plus + x + i],
         copy[minus + x + j],
     )
+}
+
+// A row of n filtered samples, put into the plane from the index `from` on; `at` filters the sample at a column. A kernel's closure is
+// inlined here, so that the one loop over the columns has all its taps in its body.
+pub fn row<F: Fn(usize) -> u16>(at: F, n: usize, output: &mut [u16], from: usize)
+    ghost filtered: { ℕ → ℕ }
+    requires callable { (x : ℕ) → x < n → F.pre at x }
+    requires gives { (x r : ℕ) → x < n → F.post at x r → r ≡ filtered x }
+    requires room { from + n ≤ length output.old }
+    ensures { output.new ≡ painted output.old (between from n) (λ k. filtered (k - from)) }
+{
+    for x in 0..n {
+        output[from + x] = at(x);
+    }
 }
