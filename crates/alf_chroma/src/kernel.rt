@@ -8,9 +8,8 @@ ghost use Rattle.alf_lists.specs.Regions.{between};
 ghost use Rattle.alf_taps.specs.Spread.{spread_coeff, spread_clip};
 ghost use Rattle.alf_chroma.specs.Samples.{ChromaReads, copy_plus, copy_minus, chroma_copy_sample, chroma_copy_sample_from};
 
-use crate::source::ChromaSource;
 use alf_math::rounding::filtered;
-use alf_taps::add_tap;
+use alf_taps::{TapSource, add_tap};
 
 // Where the rows of the copy begin that the taps of a row of samples read: its own, those y1 and y2 above it, and those y1 and y2 below.
 #[derive(Clone, Copy)]
@@ -23,7 +22,7 @@ pub struct ChromaStarts {
 }
 
 // The six taps of (1508), at column x; the sample's column of the copy is x + 3.
-fn chroma_sum(source: &ChromaSource, curr: u16, x: usize) -> i32
+fn chroma_sum(source: &TapSource<ChromaStarts>, curr: u16, x: usize) -> i32
     requires { (ChromaReads source.now.copy.now source.now.starts x) × (curr < 4096) × (x < 128) }
     ensures { result ≡ tap_sum 6 curr (spread_coeff source.now.taps.now x) (spread_clip source.now.taps.now x)
         (copy_plus source.now.copy.now source.now.starts x) (copy_minus source.now.copy.now source.now.starts x) }
@@ -40,7 +39,7 @@ fn chroma_sum(source: &ChromaSource, curr: u16, x: usize) -> i32
 }
 
 // The filtered sample at column x.
-fn chroma_at(source: &ChromaSource, x: usize) -> u16
+fn chroma_at(source: &TapSource<ChromaStarts>, x: usize) -> u16
     requires { (ChromaReads source.now.copy.now source.now.starts x) × (x < 128) }
     ensures { result ≡ chroma_copy_sample source.now.copy.now source.now.starts source.now.taps.now source.now.shift source.now.depth x }
 {
@@ -55,7 +54,12 @@ fn chroma_at(source: &ChromaSource, x: usize) -> u16
 }
 
 // The filtered samples of n columns, put into the plane from the index `from` on.
-pub(crate) fn chroma_row(source: &ChromaSource, n: usize, output: &mut [u16], from: usize)
+pub(crate) fn chroma_row(
+    source: &TapSource<ChromaStarts>,
+    n: usize,
+    output: &mut [u16],
+    from: usize,
+)
     requires { (ChromaReads source.now.copy.now source.now.starts n) × (n ≤ 128) × (from + n ≤ length output.old) }
     ensures { output.new ≡ painted output.old (between from n)
         (chroma_copy_sample_from source.now.copy.now source.now.starts source.now.taps.now source.now.shift source.now.depth from) }

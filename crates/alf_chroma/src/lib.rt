@@ -4,4 +4,3 @@
 pub(crate) mod kernel;
 pub mod piece;
 pub(crate) mod rows;
-pub(crate) mod source;

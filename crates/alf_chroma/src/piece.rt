@@ -17,13 +17,12 @@ ghost use Rattle.alf_chroma.specs.Pieces.{Spread, RowsWork, ChromaWork, unlined_
 
 use crate::kernel::{ChromaStarts, chroma_row};
 use crate::rows::rows_at;
-use crate::source::ChromaSource;
 use alf_lists::fill;
 use alf_math::grid::{sub_height, sub_width};
 use alf_pieces::copies::{copy_piece, extent, plane_index};
 use alf_pieces::pieces::Piece;
 use alf_spec::{ChromaRows, Grid, Picture, Sides};
-use alf_taps::{CLIPS, COLUMNS};
+use alf_taps::{CLIPS, COLUMNS, TapSource};
 
 // The taps of a chroma filter: so many coefficients, and then as many clips.
 const TAPS: usize = 6;
@@ -77,7 +76,7 @@ fn filter_rows(
     let ratio = sub_height(picture);
     for y in rows.start..rows.end {
         let offsets = rows_at(picture.height, grid.ctb, ratio, y);
-        let source = ChromaSource {
+        let source = TapSource {
             copy,
             starts: chroma_starts(n + 6, (y - rows.start) as usize, offsets),
             taps,

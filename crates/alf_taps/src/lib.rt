@@ -17,6 +17,20 @@ pub const CLIPS: usize = 1536;
 
 pub const SPREAD: usize = 3072;
 
+// What a row of samples is filtered from: a piece's copy, where the rows of it begin that the taps of the row read, its filter's spread
+// numbers, how far a sum of taps is shifted, and the bit depth. Luma and chroma each have their own rows.
+#[derive(Drop)]
+pub struct TapSource<'a, S> {
+    pub copy: &'a [u16],
+    pub starts: S,
+    pub taps: &'a [i16],
+    pub shift: u32,
+    pub depth: u32,
+    pub ghost numbers: { TapNumbers taps.now },
+    pub ghost shift_fits: { shift < 32 },
+    pub ghost depth_fits: { depth ≤ 12 },
+}
+
 // A sum with one tap more, of the sample at column x: its two neighbours stand in the rows of the copy that begin at `plus` and at `minus`,
 // in columns i and j from x on; its coefficient in the row that begins at `at`. The places are numbers of their own: in a call the rows are
 // variables and the columns literals, and a struct would only name them once more.

@@ -3,26 +3,27 @@ use Rattle.std.proofs.Common.{List, ℕ, ◌+◌, ◌<◌, ℤ, w32, to_z, of_z,
 use Rattle.alf_spec.specs.Arithmetic.{tap_sum}
 use Rattle.alf_math.proofs.TapByTap.{summed_none}
 use Rattle.alf_taps.proofs.SpreadTaps.{TapsGiven, SpreadSum, tap_added, tap_ready}
-use Rattle.alf_chroma.specs.declared.source.ChromaSource.{ChromaSource}
+use Rattle.alf_taps.specs.declared.TapSource.{TapSource}
+use Rattle.alf_chroma.specs.declared.kernel.ChromaStarts.{ChromaStarts}
 use Rattle.alf_chroma.specs.Samples.{ChromaReads, copy_plus, copy_minus}
 use Rattle.alf_chroma.proofs.kernel.chroma_sum.Goals as goal
 use Rattle.alf_chroma.proofs.kernel.chroma_sum.Goals.{After-add_tap-s0, After-add_tap-s1, After-add_tap-s2}
 use Rattle.alf_chroma.proofs.kernel.chroma_sum.Goals.{After-add_tap-s3, After-add_tap-s4}
 
 -- (1508): the first of each tap's pair
-abbrev plus : ChromaSource → ℕ → List ℕ
+abbrev plus : TapSource ChromaStarts → ℕ → List ℕ
 plus s x = copy_plus s.copy.now s.starts x
 
 -- (1508): the second of each tap's pair
-abbrev minus : ChromaSource → ℕ → List ℕ
+abbrev minus : TapSource ChromaStarts → ℕ → List ℕ
 minus s x = copy_minus s.copy.now s.starts x
 
 -- r, which a call returned, is the sum of the first n taps
-abbrev Sum : ChromaSource → ℕ → ℕ → ℕ → ℤ → Type 0
+abbrev Sum : TapSource ChromaStarts → ℕ → ℕ → ℕ → ℤ → Type 0
 Sum s x curr n r = SpreadSum s.taps.now x curr (plus s x) (minus s x) n (to_z w32 (of_z w32 r))
 
 -- the taps' numbers, and what stands in the copy down to the lowest row
-given : (s : ChromaSource) (x curr : ℕ) → (ChromaReads s.copy.now s.starts x) × (curr < 4096) × (x < 128)
+given : (s : TapSource ChromaStarts) (x curr : ℕ) → (ChromaReads s.copy.now s.starts x) × (curr < 4096) × (x < 128)
     → TapsGiven s.copy.now s.taps.now x curr (s.starts.below2 + x + 6)
 given s x curr h = record { numbers = s.numbers; column = h.2; sample = h.1; room = h.0.room; samples = h.0.samples }
 
