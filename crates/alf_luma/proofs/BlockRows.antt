@@ -20,12 +20,12 @@ use Rattle.alf_classify.proofs.PieceRows.{Blocks, blocks}
 use Rattle.alf_taps.specs.Spread.{clips_at, TapNumbers}
 use Rattle.alf_params.specs.Filters.{FilterNumbers}
 use Rattle.alf_luma.specs.SpreadFilters.{TapOrders, spread_from, ClassNumbers}
-use Rattle.alf_luma.specs.Samples.{spread_sample_at, piece_class, MapOf, luma_copy_sample_at, BlockRowInput, PieceCopy}
+use Rattle.alf_luma.specs.Samples.{spread_sample_at, piece_class, MapOf, luma_copy_sample_at, BlockRowInput}
 use Rattle.alf_luma.proofs.SpreadFilters.{class_of_range, number_range, RowFilters, row-filters, spread-numbers}
 use Rattle.alf_luma.proofs.SpreadRows.{blocks_value}
 
-module _ (piece : LumaPiece) {filters : List ℤ} {orders : List ℕ} {taps0 : List ℤ} {output : ℕ} {copy : List ℕ} (map : List ℕ) (row : ℕ)
-    (work : BlockRowInput piece.picture piece.grid filters orders taps0 output) (held : PieceCopy piece.columns piece.rows copy)
+module _ (piece : LumaPiece) {filters : List ℤ} {orders : List ℕ} {taps0 : List ℤ} {output : ℕ} (copy map : List ℕ) (row : ℕ)
+    (work : BlockRowInput piece.picture piece.grid filters orders taps0 output)
     (all : length map ≡ 1024) (classes : MapOf piece.picture piece.grid.ctb copy piece.columns piece.rows map)
     (below : row < extent piece.rows / 4) where
   abbrev p : Picture
