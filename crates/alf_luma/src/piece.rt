@@ -25,7 +25,7 @@ use alf_classify::{AREA, piece_classes};
 use alf_pieces::copies::{copy_piece, extent, plane_index};
 use alf_pieces::pieces::Piece;
 use alf_spec::{Grid, LumaRows, Picture, Sides};
-use alf_taps::SPREAD;
+use alf_taps::{SPREAD, TapSource};
 
 // A piece has at most 32 by 32 blocks.
 const BLOCKS: usize = 32;
@@ -77,17 +77,18 @@ fn filter_row(piece: LumaPiece, t: usize, copy: &[u16], taps: &[i16], output: &m
     let y = piece.rows.start + t as u32;
     let line = line_rule(picture.height, ctb, y);
     let r = luma_rows(line, ctb - y % ctb);
-    let s = starts(n + 6, t, r);
-    let from = plane_index(picture.width, y, piece.columns.start);
-    luma_row(
+    let source = TapSource {
         copy,
-        s,
+        starts: starts(n + 6, t, r),
         taps,
-        r.shift,
-        picture.bit_depth as u32,
-        output,
-        from,
+        shift: r.shift,
+        depth: picture.bit_depth as u32,
+    };
+    luma_row(
+        &source,
         n,
+        output,
+        plane_index(picture.width, y, piece.columns.start),
     );
 }
 

@@ -51,17 +51,22 @@ line_rule-line-requires c =
     let i = inside (goal.at.line_rule-line-requires c).Start in
     (omega (arith, grid.ctb_low), grid.ctb_high, omega (arith, i.high, i.tall, c.requires.0))
 
-pub starts-s-requires : goal.starts-s-requires
-starts-s-requires c =
-    let at = goal.at.starts-s-requires c in
+pub starts-requires : goal.starts-requires
+starts-requires c =
+    let at = goal.at.starts-requires c in
     let i = inside at.Start in
     let rises : Rising c.luma_rows-r.result = rw (offsets at.After-luma_rows-r) (rising _ _) in
     omega (arith, rises, i.narrow, i.short, c.requires.0, c.extent-n.ensures)
 
-pub plane_index-from-requires : goal.plane_index-from-requires
-plane_index-from-requires c =
-    let i = inside (goal.at.plane_index-from-requires c).Start in
+pub plane_index-requires : goal.plane_index-requires
+plane_index-requires c =
+    let i = inside (goal.at.plane_index-requires c).Start in
     (i.wide, omega (arith, i.high, i.tall, c.requires.0))
+
+pub invariant_of-source : goal.invariant_of-source
+invariant_of-source c =
+    let rises : Rising c.luma_rows-r.result = rw (offsets (goal.at.invariant_of-source c).After-luma_rows-r) (rising _ _) in
+    record { numbers = c.requires.2; shift_fits = rises.shift; depth_fits = (depth_bounds _ c.args.piece.accepted.depth).1 }
 
 pub luma_row-requires : goal.luma_row-requires
 luma_row-requires c =
@@ -72,16 +77,13 @@ luma_row-requires c =
     let held = c.requires.1 in
     let rises : Rising c.luma_rows-r.result = rw (offsets at.After-luma_rows-r) (rising _ _) in
     let rows : (t + 7) * pitch p.columns ≤ copy_length p.columns p.rows = mul-le-mul_right (pitch p.columns) (omega (arith, c.requires.0)) in
-    rw (c.starts-s.ensures, c.plane_index-from.ensures, c.extent-n.ensures) (
+    rw (c.starts.ensures, c.plane_index.ensures, c.extent-n.ensures) (
       row_reads (pitch p.columns) t (extent p.columns) rises refl (omega (arith, rows, held.room)) (λ k h. held.samples k (omega (arith, rows))),
-      c.requires.2,
       i.narrow,
-      rises.shift,
-      (depth_bounds _ p.accepted.depth).1,
       omega (arith, i.row, i.right),
     )
 
 pub returns : goal.returns
 returns c =
-    rw (c.starts-s.ensures, c.plane_index-from.ensures, c.extent-n.ensures, offsets (goal.at.returns c).After-luma_rows-r) at
+    rw (c.starts.ensures, c.plane_index.ensures, c.extent-n.ensures, offsets (goal.at.returns c).After-luma_rows-r) at
     c.luma_row.ensures
