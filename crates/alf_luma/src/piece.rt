@@ -14,8 +14,8 @@ ghost use Rattle.alf_pieces.specs.Copies.{extent, pitch};
 ghost use Rattle.alf_taps.specs.Spread.{TapNumbers};
 ghost use Rattle.alf_luma.specs.Kernel.{row_from};
 ghost use Rattle.alf_params.specs.Filters.{LumaFilters};
-ghost use Rattle.alf_luma.specs.Samples.{luma_rows_at_row, starts_of, spread_sample_at, MapOf, luma_copy_sample_at, BlockRowInput, PieceCopy};
-ghost use Rattle.alf_luma.specs.Samples.{LumaPieceInput};
+ghost use Rattle.alf_luma.specs.Samples.{luma_rows_at_row, starts_of, spread_sample_at, MapOf, luma_copy_sample_at};
+ghost use Rattle.alf_luma.specs.Samples.{BlockRowInput, PieceCopy, LumaPieceInput};
 
 use crate::kernel::{Starts, luma_row};
 use crate::rows::luma_rows;

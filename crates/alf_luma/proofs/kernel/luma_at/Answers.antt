@@ -10,8 +10,8 @@ use Rattle.alf_luma.proofs.kernel.luma_at.Goals.{After-luma_sum}
 
 -- what the sum of taps is, which comes back as bits
 summed : (c : After-luma_sum) → let s = c.args.source.now in let x = c.args.x in
-    to_z w32 (of_z w32 c.luma_sum.result) ≡ tap_sum 12 (current s.copy.now s.starts x) (spread_coeff s.taps.now x) (spread_clip s.taps.now x)
-    (plus_samples s.copy.now s.starts x) (minus_samples s.copy.now s.starts x)
+    to_z w32 (of_z w32 c.luma_sum.result) ≡ tap_sum 12 (current s.copy.now s.starts x) (spread_coeff s.taps.now x)
+    (spread_clip s.taps.now x) (plus_samples s.copy.now s.starts x) (minus_samples s.copy.now s.starts x)
 summed c = returned w32 c.luma_sum.type_inv c.luma_sum.ensures
 
 pub filtered-requires : goal.filtered-requires

@@ -38,7 +38,8 @@ pub spread-requires : goal.spread-requires
 spread-requires c =
     let pre = c.requires in
     let work = again pre.0 c.loop-row.invariant.numbers c.loop-row.invariant.painted.len in
-    rw c.extent-n.ensures (spread_ready c.args.piece c.args.copy.now c.args.map.now c.loop-row.row work pre.2 pre.3 (omega (arith, c.extent-count.ensures)))
+    rw c.extent-n.ensures (spread_ready c.args.piece c.args.copy.now c.args.map.now c.loop-row.row work pre.2 pre.3
+    (omega (arith, c.extent-count.ensures)))
 
 pub filter_four-requires : goal.filter_four-requires
 filter_four-requires c =
@@ -47,7 +48,8 @@ filter_four-requires c =
     let below : c.loop-row.row < extent c.args.piece.rows / 4 = omega (arith, c.extent-count.ensures) in (
       below,
       pre.1,
-      taps_valid c.args.piece c.args.copy.now c.args.map.now c.loop-row.row work pre.2 pre.3 below (rw c.extent-n.ensures at c.spread.ensures),
+      taps_valid c.args.piece c.args.copy.now c.args.map.now c.loop-row.row work pre.2 pre.3 below
+          (rw c.extent-n.ensures at c.spread.ensures),
       work.output_length,
     )
 
@@ -63,7 +65,7 @@ loop-row-preserved c =
     record {
       numbers = taps_valid c.args.piece c.args.copy.now c.args.map.now c.loop-row.row work pre.2 pre.3 below filled;
       painted = rw next at (paint_stacked _ _ _ _ _ _ c.loop-row.invariant.painted
-          (blocks-painted c.args.piece c.args.copy.now c.args.map.now c.loop-row.row work pre.2 pre.3 below filled _ c.filter_four.ensures)
+          (blocks-painted c.args.piece c.args.copy.now c.args.map.now row work pre.2 pre.3 below filled _ c.filter_four.ensures)
           refl (omega arith) (omega arith));
     }
 

@@ -22,7 +22,8 @@ record Inside (width height across rows left start t room : ℕ) : Type 0 where
   row : (start + t) * width + width ≤ room
 
 inside : (c : Start) → let p = c.args.piece in
-    Inside p.picture.width p.picture.height (extent p.columns) (extent p.rows) p.columns.start p.rows.start c.args.t (length c.args.output.now)
+    Inside p.picture.width p.picture.height (extent p.columns) (extent p.rows) p.columns.start p.rows.start c.args.t
+    (length c.args.output.now)
 inside c =
     let p = c.args.piece in
     let a = p.accepted in
@@ -76,9 +77,11 @@ luma_row-requires c =
     let t = c.args.t in
     let held = c.requires.1 in
     let rises : Rising c.luma_rows-r.result = rw (offsets at.After-luma_rows-r) (rising _ _) in
-    let rows : (t + 7) * pitch p.columns ≤ copy_length p.columns p.rows = mul-le-mul_right (pitch p.columns) (omega (arith, c.requires.0)) in
+    let rows : (t + 7) * pitch p.columns ≤ copy_length p.columns p.rows =
+    mul-le-mul_right (pitch p.columns) (omega (arith, c.requires.0)) in
     rw (c.starts.ensures, c.plane_index.ensures, c.extent-n.ensures) (
-      row_reads (pitch p.columns) t (extent p.columns) rises refl (omega (arith, rows, held.room)) (λ k h. held.samples k (omega (arith, rows))),
+      row_reads (pitch p.columns) t (extent p.columns) rises refl (omega (arith, rows, held.room))
+          (λ k h. held.samples k (omega (arith, rows))),
       i.narrow,
       omega (arith, i.row, i.right),
     )
