@@ -2,7 +2,6 @@
 use mathlib.Core.Path.{◌≡◌, ap}
 use mathlib.Core.List.{List}
 use Prim.Native.Nat.{ℕ, ◌+◌, ◌*◌, ◌/◌, ◌≤◌, ◌<◌}
-use native.Mathlib.Nat.{mul-le-mul_right}
 use native.Mathlib.Omega.{arith}
 use lib.IntN.{ℤ, pos}
 use lib.ListN.{length, get_or}
@@ -11,32 +10,45 @@ use Rattle.alf_spec.specs.declared.Grid.{Grid}
 use Rattle.alf_spec.specs.declared.Picture.{Picture}
 use Rattle.alf_spec.specs.Lists.{painted}
 use Rattle.alf_spec.specs.Process.{class_number}
-use Rattle.alf_math.specs.Grids.{AcceptedPicture}
+use Rattle.alf_luma.specs.declared.piece.LumaPiece.{LumaPiece}
 use Rattle.alf_lists.specs.Regions.{in_rect}
 use Rattle.alf_lists.specs.Filled.{Filled}
 use Rattle.alf_lists.proofs.Painted.{paint_is, paint_of, paint_same}
 use Rattle.alf_pieces.specs.declared.pieces.Piece.{Piece}
-use Rattle.alf_pieces.specs.Copies.{extent, pitch, copy_length}
+use Rattle.alf_pieces.specs.Copies.{extent}
 use Rattle.alf_classify.proofs.PieceRows.{Blocks, blocks}
 use Rattle.alf_taps.specs.Spread.{clips_at, TapNumbers}
 use Rattle.alf_params.specs.Filters.{FilterNumbers}
 use Rattle.alf_luma.specs.SpreadFilters.{TapOrders, spread_from, ClassNumbers}
-use Rattle.alf_luma.specs.Samples.{spread_sample_at, piece_class, MapOf, luma_copy_sample_at, BlockRowInput, PieceCopy}
+use Rattle.alf_luma.specs.Samples.{spread_sample_at, piece_class, MapOf, luma_copy_sample_at, BlockRowInput}
 use Rattle.alf_luma.proofs.SpreadFilters.{class_of_range, number_range, RowFilters, row-filters, spread-numbers}
 use Rattle.alf_luma.proofs.SpreadRows.{blocks_value}
 
-module _ {p : Picture} {g : Grid} {filters : List ℤ} {orders : List ℕ} {taps0 : List ℤ} {output : ℕ} {columns rows : Piece}
-    {copy : List ℕ} (map : List ℕ) (row : ℕ) (work : BlockRowInput p g filters orders taps0 output) (held : PieceCopy p columns rows copy)
-    (all : length map ≡ 1024) (classes : MapOf p g.ctb copy columns rows map) (below : row < extent rows / 4) where
+module _ (piece : LumaPiece) {filters : List ℤ} {orders : List ℕ} {taps0 : List ℤ} {output : ℕ} (copy map : List ℕ) (row : ℕ)
+    (work : BlockRowInput piece.picture piece.grid filters orders taps0 output)
+    (all : length map ≡ 1024) (classes : MapOf piece.picture piece.grid.ctb copy piece.columns piece.rows map)
+    (below : row < extent piece.rows / 4) where
+  abbrev p : Picture
+  p = piece.picture
+
+  abbrev g : Grid
+  g = piece.grid
+
+  abbrev columns : Piece
+  columns = piece.columns
+
+  abbrev rows : Piece
+  rows = piece.rows
+
   -- the class of block b of the row
   abbrev class : ℕ → Class
   class b = piece_class p g.ctb copy columns rows b row
 
   across : Blocks p.width columns
-  across = blocks held.across
+  across = blocks piece.across
 
   down : Blocks p.height rows
-  down = blocks held.down
+  down = blocks piece.down
 
   few : extent columns / 4 ≤ 32
   few = omega (arith, across.few)
@@ -69,25 +81,6 @@ module _ {p : Picture} {g : Grid} {filters : List ℤ} {orders : List ℕ} {taps
         row-filters filters orders map (row * 32) _ class filled work.order work.spread.room few numbers
         (λ b. class_of_range _ _ _) _ (omega (arith, across.whole))
 
-    -- what filtering the row's samples asks
-    pub four_ready : AcceptedPicture p g × (columns.start + extent columns ≤ p.width) × (extent columns ≤ 128)
-        × (rows.start + 4 * row + 4 ≤ p.height) × (4 * row + 4 ≤ 128)
-        × ((4 * row + 10) * (extent columns + 6) ≤ length copy)
-        × ((k : ℕ) → k < (4 * row + 10) * (extent columns + 6) → get_or copy k 0 < 4096) × TapNumbers taps × (output ≡ p.width * p.height)
-    four_ready =
-        let inside : (4 * row + 10) * pitch columns ≤ copy_length columns rows =
-        mul-le-mul_right (pitch columns) (omega (arith, down.whole, below)) in (
-          work.picture,
-          omega (arith, held.across.numbers),
-          across.few,
-          omega (arith, held.down.numbers, down.whole, below),
-          omega (arith, down.few, down.whole, below),
-          omega (arith, held.room),
-          λ k h. held.samples k (omega arith),
-          taps_valid,
-          work.output_length,
-        )
-
     -- the row's samples are those of the piece
     pub blocks-painted : (old : List ℕ) {new : List ℕ}
         → new ≡ painted old (in_rect p.width columns.start (columns.start + extent columns) (rows.start + 4 * row)
@@ -96,7 +89,7 @@ module _ {p : Picture} {g : Grid} {filters : List ℤ} {orders : List ℕ} {taps
         → new ≡ painted old (in_rect p.width columns.start columns.end (rows.start + 4 * row) (rows.start + 4 * row + 4))
         (luma_copy_sample_at p g.ctb copy columns rows filters)
     blocks-painted old e =
-        let last : columns.end ≡ columns.start + extent columns = omega (arith, held.across.numbers) in
+        let last : columns.end ≡ columns.start + extent columns = omega (arith, piece.across.numbers) in
         paint_is (paint_same (paint_of {xs = old} e)
         (λ k h. ap (λ (x : ℕ). in_rect p.width columns.start x (rows.start + 4 * row) (rows.start + 4 * row + 4) k) last)
         (λ k h t. blocks_value p g.ctb copy columns rows filters _ row own_filters k t))

@@ -11,7 +11,6 @@ use Rattle.alf_spec.specs.Luma.{tap_order, luma_rows}
 use Rattle.alf_spec.specs.Process.{class_number}
 use Rattle.alf_math.specs.Grids.{AcceptedPicture}
 use Rattle.alf_pieces.specs.declared.pieces.Piece.{Piece}
-use Rattle.alf_pieces.specs.Pieces.{BlockPiece}
 use Rattle.alf_pieces.specs.Copies.{extent, pitch, copy_length, area}
 use Rattle.alf_classify.specs.Windows.{copy_window}
 use Rattle.alf_classify.specs.PieceClasses.{row_window}
@@ -84,10 +83,8 @@ pub record BlockRowInput (p : Picture) (g : Grid) (filters : List ℤ) (orders :
   pub spread : TapNumbers taps
   pub output_length : output ≡ p.width * p.height
 
--- a piece of whole blocks, and its copy, which holds samples
-pub record PieceCopy (p : Picture) (columns rows : Piece) (copy : List ℕ) : Type 0 where
-  pub across : BlockPiece p.width columns
-  pub down : BlockPiece p.height rows
+-- the copy of a piece, which holds samples
+pub record PieceCopy (columns rows : Piece) (copy : List ℕ) : Type 0 where
   pub room : copy_length columns rows ≤ length copy
   pub samples : (k : ℕ) → k < copy_length columns rows → get_or copy k 0 < 4096
 

@@ -8,11 +8,11 @@ ghost use Rattle.std.specs.Prelude.{◌≡◌, ◌+◌, ◌-◌, ◌≤◌, ◌<
 ghost use Rattle.alf_spec.specs.Lists.{painted};
 ghost use Rattle.alf_spec.specs.Arithmetic.{tap_sum};
 ghost use Rattle.alf_lists.specs.Regions.{between};
-ghost use Rattle.alf_taps.specs.Spread.{spread_coeff, spread_clip, TapNumbers};
+ghost use Rattle.alf_taps.specs.Spread.{spread_coeff, spread_clip};
 ghost use Rattle.alf_luma.specs.Kernel.{plus_samples, minus_samples, filtered_at, row_from, RowReads};
 
 use alf_math::rounding::filtered;
-use alf_taps::add_tap;
+use alf_taps::{TapSource, add_tap};
 
 // Where the rows of the copy begin that the taps of a row of samples read: its own, and three above and below it.
 #[derive(Clone, Copy)]
@@ -27,11 +27,14 @@ pub struct Starts {
 }
 
 // (1467): the twelve taps of the sample `curr` at column x, which stands at column x + 3 of the copy, since the margin has three columns.
-fn luma_sum(copy: &[u16], curr: u16, x: usize, s: Starts, taps: &[i16]) -> i32
-    requires { (RowReads copy.now s (x + 1)) × (TapNumbers taps.now) × (x < 128) × (curr < 4096) }
-    ensures { result ≡ tap_sum 12 curr (spread_coeff taps.now x) (spread_clip taps.now x)
-        (plus_samples copy.now s x) (minus_samples copy.now s x) }
+fn luma_sum(source: &TapSource<Starts>, curr: u16, x: usize) -> i32
+    requires { (RowReads source.now.copy.now source.now.starts (x + 1)) × (curr < 4096) × (x < 128) }
+    ensures { result ≡ tap_sum 12 curr (spread_coeff source.now.taps.now x) (spread_clip source.now.taps.now x)
+        (plus_samples source.now.copy.now source.now.starts x) (minus_samples source.now.copy.now source.now.starts x) }
 {
+    let copy = source.copy;
+    let s = source.starts;
+    let taps = source.taps;
     let s0 = add_tap(0, copy, curr, x, s.below3, 3, s.above3, 3, taps, 0);
     let s1 = add_tap(s0, copy, curr, x, s.below2, 4, s.above2, 2, taps, 128);
     let s2 = add_tap(s1, copy, curr, x, s.below2, 3, s.above2, 3, taps, 256);
@@ -47,32 +50,22 @@ fn luma_sum(copy: &[u16], curr: u16, x: usize, s: Starts, taps: &[i16]) -> i32
 }
 
 // (1466), (1468), (1469): the filtered sample at column x.
-fn luma_at(copy: &[u16], x: usize, s: Starts, taps: &[i16], shift: u32, depth: u32) -> u16
-    requires { (RowReads copy.now s (x + 1)) × (TapNumbers taps.now) × (x < 128) × (shift < 32) × (depth ≤ 12) }
-    ensures { result ≡ filtered_at depth shift copy.now taps.now s x }
+fn luma_at(source: &TapSource<Starts>, x: usize) -> u16
+    requires { (RowReads source.now.copy.now source.now.starts (x + 1)) × (x < 128) }
+    ensures { result ≡ filtered_at source.now.depth source.now.shift source.now.copy.now source.now.taps.now source.now.starts x }
 {
-    let here = s.here;
-    let curr = copy[here + x + 3];
-    filtered(curr, luma_sum(copy, curr, x, s, taps), shift, depth)
+    let here = source.starts.here;
+    let curr = source.copy[here + x + 3];
+    filtered(curr, luma_sum(source, curr, x), source.shift, source.depth)
 }
 
 // A row of n filtered samples, put into the plane from the index `from` on.
-pub(crate) fn luma_row(
-    copy: &[u16],
-    s: Starts,
-    taps: &[i16],
-    shift: u32,
-    depth: u32,
-    output: &mut [u16],
-    from: usize,
-    n: usize,
-)
-    requires { (RowReads copy.now s n) × (TapNumbers taps.now) × (n ≤ 128) × (shift < 32) × (depth ≤ 12)
-        × (from + n ≤ length output.old) }
+pub(crate) fn luma_row(source: &TapSource<Starts>, n: usize, output: &mut [u16], from: usize)
+    requires { (RowReads source.now.copy.now source.now.starts n) × (n ≤ 128) × (from + n ≤ length output.old) }
     ensures { output.new ≡ painted output.old (between from n)
-        (row_from depth shift copy.now taps.now s from) }
+        (row_from source.now.depth source.now.shift source.now.copy.now source.now.taps.now source.now.starts from) }
 {
     for x in 0..n {
-        output[from + x] = luma_at(copy, x, s, taps, shift, depth);
+        output[from + x] = luma_at(source, x);
     }
 }

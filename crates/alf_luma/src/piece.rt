@@ -10,21 +10,22 @@ ghost use Rattle.alf_spec.specs.declared.Ctb.{Ctb};
 ghost use Rattle.alf_math.specs.Grids.{AcceptedPicture};
 ghost use Rattle.alf_lists.specs.Regions.{between, in_rect};
 ghost use Rattle.alf_pieces.specs.Pieces.{PieceOf, BlockPiece, CtbOf};
+ghost use Rattle.alf_pieces.specs.Copies.{extent, pitch};
 ghost use Rattle.alf_taps.specs.Spread.{TapNumbers};
 ghost use Rattle.alf_luma.specs.Kernel.{row_from};
 ghost use Rattle.alf_params.specs.Filters.{LumaFilters};
-ghost use Rattle.alf_luma.specs.Samples.{luma_rows_at_row, starts_of, spread_sample_at, MapOf, luma_copy_sample_at, BlockRowInput, PieceCopy};
-ghost use Rattle.alf_luma.specs.Samples.{LumaPieceInput};
+ghost use Rattle.alf_luma.specs.Samples.{luma_rows_at_row, starts_of, spread_sample_at, MapOf, luma_copy_sample_at};
+ghost use Rattle.alf_luma.specs.Samples.{BlockRowInput, PieceCopy, LumaPieceInput};
 
 use crate::kernel::{Starts, luma_row};
 use crate::rows::luma_rows;
 use crate::spread::spread;
 use alf_boundary::clips::line_rule;
 use alf_classify::{AREA, piece_classes};
-use alf_pieces::copies::{copy_piece, extent};
+use alf_pieces::copies::{copy_piece, extent, plane_index};
 use alf_pieces::pieces::Piece;
 use alf_spec::{Grid, LumaRows, Picture, Sides};
-use alf_taps::SPREAD;
+use alf_taps::{SPREAD, TapSource};
 
 // A piece has at most 32 by 32 blocks.
 const BLOCKS: usize = 32;
@@ -49,77 +50,64 @@ fn starts(pitch: usize, t: usize, r: LumaRows) -> Starts
     }
 }
 
-// The piece's row t, which is row y of the picture, put into the plane from the index `from` on.
-fn filter_row(
-    picture: Picture,
-    grid: Grid,
-    y: u32,
-    copy: &[u16],
-    pitch: usize,
-    t: usize,
-    taps: &[i16],
-    output: &mut [u16],
-    from: usize,
-    n: usize,
-)
-    requires { (AcceptedPicture picture grid) × (y ≤ 4096) × (pitch ≡ n + 6) × (n ≤ 128) × (t ≤ 127)
-        × ((t + 7) * pitch ≤ length copy.now)
-        × ((k : ℕ) → k < (t + 7) * pitch → get_or copy.now k 0 < 4096) × (TapNumbers taps.now) × (from + n ≤ length output.old) }
-    ensures { let r = luma_rows_at_row picture.height grid.ctb y in output.new ≡ painted output.old
-        (between from n)
-        (row_from picture.bit_depth r.shift copy.now taps.now (starts_of pitch t r) from) }
-{
-    let line = line_rule(picture.height, grid.ctb, y);
-    let r = luma_rows(line, grid.ctb - y % grid.ctb);
-    let s = starts(pitch, t, r);
-    let depth = picture.bit_depth as u32;
-    luma_row(copy, s, taps, r.shift, depth, output, from, n);
+// A piece of whole blocks in the luma plane of an accepted picture.
+#[derive(Clone, Copy)]
+pub struct LumaPiece {
+    pub picture: Picture,
+    pub grid: Grid,
+    pub columns: Piece,
+    pub rows: Piece,
+    pub ghost accepted: { AcceptedPicture picture grid },
+    pub ghost across: { BlockPiece picture.width columns },
+    pub ghost down: { BlockPiece picture.height rows },
 }
 
-// Four rows with one spread of filters: n columns from column `left` on, from row `top` of the picture and row t of the piece on.
-fn filter_four(
-    picture: Picture,
-    grid: Grid,
-    left: usize,
-    n: usize,
-    top: usize,
-    t: usize,
-    copy: &[u16],
-    taps: &[i16],
-    output: &mut [u16],
-)
-    requires { (AcceptedPicture picture grid) × (left + n ≤ picture.width) × (n ≤ 128) × (top + 4 ≤ picture.height) × (t + 4 ≤ 128)
-        × ((t + 10) * (n + 6) ≤ length copy.now) × ((k : ℕ) → k < (t + 10) * (n + 6) → get_or copy.now k 0 < 4096)
-        × (TapNumbers taps.now)
-        × (length output.old ≡ picture.width * picture.height) }
-    ensures { output.new ≡ painted output.old (in_rect picture.width left (left + n) top (top + 4))
-        (spread_sample_at picture grid.ctb copy.now taps.now left n top t) }
+// The piece's row t.
+fn filter_row(piece: LumaPiece, t: usize, copy: &[u16], taps: &[i16], output: &mut [u16])
+    requires { (t < extent piece.rows) × (PieceCopy piece.columns piece.rows copy.now) × (TapNumbers taps.now)
+        × (length output.old ≡ piece.picture.width * piece.picture.height) }
+    ensures { let y = piece.rows.start + t in let r = luma_rows_at_row piece.picture.height piece.grid.ctb y in
+        let from = y * piece.picture.width + piece.columns.start in
+        output.new ≡ painted output.old (between from (extent piece.columns))
+        (row_from piece.picture.bit_depth r.shift copy.now taps.now (starts_of (pitch piece.columns) t r) from) }
 {
-    let width = picture.width as usize;
+    let picture = piece.picture;
+    let ctb = piece.grid.ctb;
+    let n = extent(piece.columns);
+    let y = piece.rows.start + t as u32;
+    let line = line_rule(picture.height, ctb, y);
+    let r = luma_rows(line, ctb - y % ctb);
+    let source = TapSource {
+        copy,
+        starts: starts(n + 6, t, r),
+        taps,
+        shift: r.shift,
+        depth: picture.bit_depth as u32,
+    };
+    luma_row(
+        &source,
+        n,
+        output,
+        plane_index(picture.width, y, piece.columns.start),
+    );
+}
+
+// Row `row` of the piece's blocks, four rows of samples with one spread of filters.
+fn filter_four(piece: LumaPiece, row: usize, copy: &[u16], taps: &[i16], output: &mut [u16])
+    requires { (row < extent piece.rows / 4) × (PieceCopy piece.columns piece.rows copy.now) × (TapNumbers taps.now)
+        × (length output.old ≡ piece.picture.width * piece.picture.height) }
+    ensures { let left = piece.columns.start in let n = extent piece.columns in let top = piece.rows.start + 4 * row in
+        output.new ≡ painted output.old (in_rect piece.picture.width left (left + n) top (top + 4))
+        (spread_sample_at piece.picture piece.grid.ctb copy.now taps.now left n top (4 * row)) }
+{
     for i in 0..4 {
-        let y = top + i;
-        let from = y * width + left;
-        filter_row(
-            picture,
-            grid,
-            y as u32,
-            copy,
-            n + 6,
-            t + i,
-            taps,
-            output,
-            from,
-            n,
-        );
+        filter_row(piece, 4 * row + i, copy, taps, output);
     }
 }
 
 // All rows of blocks: the filters of each are spread once.
 fn filter_copy(
-    picture: Picture,
-    grid: Grid,
-    columns: Piece,
-    rows: Piece,
+    piece: LumaPiece,
     filters: &[i16],
     orders: &[u8],
     map: &[u8],
@@ -127,21 +115,19 @@ fn filter_copy(
     taps: &mut [i16],
     output: &mut [u16],
 )
-    requires { (BlockRowInput picture grid filters.now orders.now taps.old (length output.old))
-        × (PieceCopy picture columns rows copy.now)
-        × (length map.now ≡ 1024) × (MapOf picture grid.ctb copy.now columns rows map.now) }
+    requires { (BlockRowInput piece.picture piece.grid filters.now orders.now taps.old (length output.old))
+        × (PieceCopy piece.columns piece.rows copy.now)
+        × (length map.now ≡ 1024) × (MapOf piece.picture piece.grid.ctb copy.now piece.columns piece.rows map.now) }
     ensures { (output.new ≡ painted output.old
-        (in_rect picture.width columns.start columns.end rows.start rows.end)
-        (luma_copy_sample_at picture grid.ctb copy.now columns rows filters.now))
+        (in_rect piece.picture.width piece.columns.start piece.columns.end piece.rows.start piece.rows.end)
+        (luma_copy_sample_at piece.picture piece.grid.ctb copy.now piece.columns piece.rows filters.now))
         × (TapNumbers taps.new) }
 {
-    let n = extent(columns);
-    let count = extent(rows) / 4;
+    let n = extent(piece.columns);
+    let count = extent(piece.rows) / 4;
     for row in 0..count {
-        let left = columns.start as usize;
-        let top = rows.start as usize + 4 * row;
         spread(filters, orders, map, row * BLOCKS, n / 4, taps);
-        filter_four(picture, grid, left, n, top, 4 * row, copy, taps, output);
+        filter_four(piece, row, copy, taps, output);
     }
 }
 
@@ -187,7 +173,11 @@ pub fn filter_piece(
         0,
         0,
     );
-    filter_copy(
-        picture, grid, columns, rows, filters, orders, &map, copy, taps, output,
-    );
+    let piece = LumaPiece {
+        picture,
+        grid,
+        columns,
+        rows,
+    };
+    filter_copy(piece, filters, orders, &map, copy, taps, output);
 }

@@ -9,14 +9,14 @@ pub loop-x-init : goal.loop-x-init
 loop-x-init c = paint_none (run_none _)
 
 pub luma_at-requires : goal.luma_at-requires
-luma_at-requires c = (fewer c.requires.0 (omega arith), c.requires.1, omega arith, c.requires.3, c.requires.4)
+luma_at-requires c = (fewer c.requires.0 (omega arith), omega arith)
 
 pub loop-x-preserved : goal.loop-x-preserved
 loop-x-preserved c =
-    let a = c.args in
-    let column : c.loop-x.x ≡ a.from + c.loop-x.x - a.from = omega arith in
+    let s = c.args.source.now in
+    let column : c.loop-x.x ≡ c.args.from + c.loop-x.x - c.args.from = omega arith in
     paint_set _ _ c.loop-x.invariant (omega arith)
-    (c.luma_at.ensures ∙ ap (filtered_at a.depth a.shift a.copy.now a.taps.now a.s) column) (λ k h. run_more _ _ k)
+    (c.luma_at.ensures ∙ ap (filtered_at s.depth s.shift s.copy.now s.taps.now s.starts) column) (λ k h. run_more _ _ k)
 
 pub returns : goal.returns
 returns c = let done : c.loop-x.x ≡ c.args.n = omega arith in paint_is (rw done at c.loop-x.invariant)

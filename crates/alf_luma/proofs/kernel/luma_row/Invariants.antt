@@ -5,4 +5,6 @@ use Rattle.alf_luma.proofs.kernel.luma_row.Given as goal
 
 -- the columns before x are filtered
 abbrev pub invariant-loop-x : goal.invariant-loop-x
-invariant-loop-x l = Paint l.initial.output (between l.from l.x) (row_from l.depth l.shift l.copy l.taps l.s l.from) l.output
+invariant-loop-x l =
+    let s = l.source in
+    Paint l.initial.output (between l.from l.x) (row_from s.depth s.shift s.copy.now s.taps.now s.starts l.from) l.output

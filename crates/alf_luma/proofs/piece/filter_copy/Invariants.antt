@@ -9,6 +9,7 @@ use Rattle.alf_luma.proofs.piece.filter_copy.Given as goal
 abbrev pub invariant-loop-row : goal.invariant-loop-row
 invariant-loop-row l = record {
   numbers : TapNumbers l.taps;
-  painted : Paint l.initial.output (in_rect l.picture.width l.columns.start l.columns.end l.rows.start (l.rows.start + 4 * l.row))
-      (luma_copy_sample_at l.picture l.grid.ctb l.copy l.columns l.rows l.filters) l.output;
+  painted : Paint l.initial.output
+      (in_rect l.piece.picture.width l.piece.columns.start l.piece.columns.end l.piece.rows.start (l.piece.rows.start + 4 * l.row))
+      (luma_copy_sample_at l.piece.picture l.piece.grid.ctb l.copy l.piece.columns l.piece.rows l.filters) l.output;
 }

@@ -35,6 +35,9 @@ piece_classes-requires c =
       },
     )
 
+pub invariant_of-piece : goal.invariant_of-piece
+invariant_of-piece c = record { accepted = c.requires.0.blocks.picture; across = c.requires.1; down = c.requires.2 }
+
 pub filter_copy-requires : goal.filter_copy-requires
 filter_copy-requires c =
     let pre = c.requires in
@@ -42,8 +45,6 @@ filter_copy-requires c =
     let room = copy_fits pre.1.numbers pre.2.numbers large in (
       pre.0.blocks,
       record {
-        across = pre.1;
-        down = pre.2;
         room = rw (paint_of c.copy_piece.ensures).len room;
         samples = copy_small _ _ _ _ _ _ _ c.copy_piece.ensures room 4096 pre.0.samples;
       },
