@@ -9,7 +9,7 @@ ghost use Rattle.alf_taps.specs.Spread.{spread_coeff, spread_clip};
 ghost use Rattle.alf_chroma.specs.Samples.{ChromaReads, copy_plus, copy_minus, chroma_copy_sample, chroma_copy_sample_from};
 
 use alf_math::rounding::filtered;
-use alf_taps::{TapSource, add_tap, row};
+use alf_taps::{TapSource, add_tap};
 
 // Where the rows of the copy begin that the taps of a row of samples read: its own, those y1 and y2 above it, and those y1 and y2 below.
 #[derive(Clone, Copy)]
@@ -64,5 +64,7 @@ pub(crate) fn chroma_row(
     ensures { output.new ≡ painted output.old (between from n)
         (chroma_copy_sample_from source.now.copy.now source.now.starts source.now.taps.now source.now.shift source.now.depth from) }
 {
-    row(|x| chroma_at(source, x), n, output, from);
+    for x in 0..n {
+        output[from + x] = chroma_at(source, x);
+    }
 }
