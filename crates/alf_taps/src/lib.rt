@@ -4,9 +4,7 @@
 // loop over the columns reads one coefficient and one clip for each tap and sample, and vectors hold eight columns.
 #![tactic(auto)]
 
-ghost use Rattle.std.specs.Prelude.{◌≡◌, ℕ, ◌+◌, ◌-◌, ◌*◌, ◌^◌, ◌≤◌, ◌<◌, length, get_or, pos, nat_abs, ◌+ℤ◌};
-ghost use Rattle.alf_spec.specs.Lists.{painted};
-ghost use Rattle.alf_lists.specs.Regions.{between};
+ghost use Rattle.std.specs.Prelude.{◌≡◌, ◌+◌, ◌*◌, ◌^◌, ◌≤◌, ◌<◌, length, get_or, pos, nat_abs, ◌+ℤ◌};
 ghost use Rattle.alf_spec.specs.Arithmetic.{tap as tap_of};
 ghost use Rattle.alf_taps.specs.Spread.{clips_at, TapNumbers};
 
@@ -62,18 +60,4 @@ pub fn add_tap(
         copy[plus + x + i],
         copy[minus + x + j],
     )
-}
-
-// A row of n filtered samples, put into the plane from the index `from` on; `at` filters the sample at a column. A kernel's closure is
-// inlined here, so that the one loop over the columns has all its taps in its body.
-pub fn row<F: Fn(usize) -> u16>(at: F, n: usize, output: &mut [u16], from: usize)
-    ghost filtered: { ℕ → ℕ }
-    requires callable { (x : ℕ) → x < n → F.pre at x }
-    requires gives { (x r : ℕ) → x < n → F.post at x r → r ≡ filtered x }
-    requires room { from + n ≤ length output.old }
-    ensures { output.new ≡ painted output.old (between from n) (λ k. filtered (k - from)) }
-{
-    for x in 0..n {
-        output[from + x] = at(x);
-    }
 }
