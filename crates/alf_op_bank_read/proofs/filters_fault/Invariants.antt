@@ -3,11 +3,11 @@ use Rattle.std.proofs.Common.{◌≡◌, ◌≤◌, ◌-◌, length, drop}
 use Rattle.alf_bank.specs.Reading.{fields, filters_fault}
 use Rattle.alf_op_bank_read.proofs.filters_fault.Given as goal
 
-abbrev pub invariant-loop-step : goal.invariant-loop-step
-invariant-loop-step l = record {
-  within : l.at ≤ length l.file;
-  left : filters_fault l.limit l.from (fields (drop l.at l.file) 0) ≡ filters_fault l.limit 0 (fields (drop 4 l.file) 0);
+abbrev pub invariant-loop-next : goal.invariant-loop-next
+invariant-loop-next l = record {
+  within : l.here.at ≤ length l.file;
+  left : filters_fault l.limit l.here.from (fields (drop l.here.at l.file) 0) ≡ filters_fault l.limit 0 (fields (drop 4 l.file) 0);
 }
 
-abbrev pub decreases-loop-step : goal.decreases-loop-step
-decreases-loop-step l = length l.file - l.at
+abbrev pub decreases-loop-next : goal.decreases-loop-next
+decreases-loop-next l = length l.file - l.here.at
