@@ -76,9 +76,10 @@ pub fn fill_bank(file: &[u8], limit: usize, bank: &mut [i16])
         × (filters_fault limit 0 (fields (drop 4 file.now) 0) ≡ 0) }
     ensures { bank.new ≡ filled bank.old (fields (drop 4 file.now) 0) }
 {
-    let mut here = START;
-    while let Ok(Some(next)) = (BankReader { file, here }).step(limit) {
-        store_at(file, here.at, bank);
-        here = next;
+    let mut reader = BankReader { file, here: START };
+    // stays a `while`: a step is as long as its field says, so that no index is counted and no number of turns is known before
+    while let Ok(Some(next)) = reader.step(limit) {
+        store_at(reader.file, reader.here.at, bank);
+        reader.here = next;
     }
 }

@@ -31,9 +31,10 @@ fn filters_fault(file: &[u8], limit: usize) -> Result<(), Fault>
     requires { 4 ≤ length file.now }
     ensures { number_of result ≡ filters_fault limit 0 (fields (drop 4 file.now) 0) }
 {
-    let mut here = START;
-    while let Some(next) = (BankReader { file, here }).step(limit)? {
-        here = next;
+    let mut reader = BankReader { file, here: START };
+    // stays a `while`: a step is as long as its field says, so that no index is counted and no number of turns is known before
+    while let Some(next) = reader.step(limit)? {
+        reader.here = next;
     }
     Ok(())
 }

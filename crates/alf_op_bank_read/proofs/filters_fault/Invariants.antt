@@ -4,10 +4,12 @@ use Rattle.alf_bank.specs.Reading.{fields, filters_fault}
 use Rattle.alf_op_bank_read.proofs.filters_fault.Given as goal
 
 abbrev pub invariant-loop-next : goal.invariant-loop-next
-invariant-loop-next l = record {
-  within : l.here.at ≤ length l.file;
-  left : filters_fault l.limit l.here.from (fields (drop l.here.at l.file) 0) ≡ filters_fault l.limit 0 (fields (drop 4 l.file) 0);
-}
+invariant-loop-next l =
+    let r = l.reader in
+    record {
+      within : r.here.at ≤ length r.file.now;
+      left : filters_fault l.limit r.here.from (fields (drop r.here.at r.file.now) 0) ≡ filters_fault l.limit 0 (fields (drop 4 l.file) 0);
+    }
 
 abbrev pub decreases-loop-next : goal.decreases-loop-next
-decreases-loop-next l = length l.file - l.here.at
+decreases-loop-next l = length l.reader.file.now - l.reader.here.at
