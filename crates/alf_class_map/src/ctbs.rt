@@ -77,6 +77,7 @@ pub(crate) fn class_ctb(
     ensures { AxesClassified frame.picture sides axes.now luma.now (in_walk (frame.picture.width / 4) 4 4 axes.now) map.old map.new }
 {
     let mut at = Some(first_piece(axes));
+    // stays a `while`: the next piece is found from the piece before it, and no index is counted
     while let Some(walk) = at {
         class_piece(frame, sides, walk.columns, walk.rows, luma, rooms, map);
         at = next_piece(axes, walk);
