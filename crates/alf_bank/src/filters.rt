@@ -4,7 +4,8 @@ ghost use Rattle.alf_bank.specs.Filters.{shape_of, size_of, count_of, start_of};
 
 use crate::{FilterId, FilterShape};
 
-// By tag: of a luma filter, a chroma alternative, and a cross-component filter, which is also the answer for any other tag.
+// By tag: of a luma filter, a chroma alternative, and a cross-component filter, which is also the answer for any other tag. The tag stays a
+// number, as in FilterId: the reader asks with any byte of a file.
 #[tactic(auto, unfolding(crate::specs::Filters::shape_of))]
 pub fn shape_of(tag: u8) -> FilterShape
     ensures { (result.leads ≡ (shape_of tag).leads) × (result.coeffs ≡ (shape_of tag).coeffs) × (result.clips ≡ (shape_of tag).clips)

@@ -12,7 +12,7 @@ use Rattle.alf_spec.specs.Input.{Layout, classes, classes_input}
 use Rattle.alf_spec.specs.Geometry.{plane_of, plane_length, class_plane}
 use Rattle.alf_spec.specs.Faults.{fault}
 use Rattle.alf_spec.proofs.Accepted.{AcceptedLayout, accepted, lists_valid, luma-length, luma-samples, output_length_lem}
-use Rattle.alf_math.specs.Grids.{GridOf}
+use Rattle.alf_math.specs.Grids.{GridOf, AcceptedPicture}
 use Rattle.alf_math.proofs.Grids.{width_bounds, height_bounds, sample_bound}
 use Rattle.alf_math.proofs.CtbAddresses.{ctb_in_picture}
 use Rattle.alf_pieces.specs.declared.pieces.Piece.{Piece}
@@ -25,11 +25,10 @@ use Rattle.alf_classify.proofs.PieceRows.{blocks}
 
 -- the picture's own map has room for a piece of it
 pub own_map : {p : Picture} {g : Grid} {luma : List ℕ} {map : ℕ} {columns rows : Piece}
-    → ClassWork p g luma map
+    → AcceptedPicture p g → ClassWork p luma map
     → BlockPiece p.width columns → BlockPiece p.height rows → MapRoom columns rows (p.width / 4) (columns.start / 4)
     (rows.start / 4) map
-own_map {p} work across down =
-    let r = work.picture in
+own_map {p} r work across down =
     let a = blocks across in
     let d = blocks down in
     record {
@@ -52,27 +51,29 @@ module _ (l : Layout) (luma : List ℕ) (n : ℕ) (ok : fault classes (classes_i
   map-length = output_length_lem classes (classes_input l luma n) ok
 
   module _ {g : Grid} (grid : GridOf l.picture g) where
-    class_work : ClassWork l.picture g luma n
+    pub accepted-frame : AcceptedPicture l.picture g
+    accepted-frame = record {
+      grid = grid;
+      sizes = accepted-classes.sizes;
+      ctb_size = accepted-classes.ctb_size;
+      depth = accepted-classes.bit_depth;
+    }
+
+    class_work : ClassWork l.picture luma n
     unfolding plane_of
     class_work = record {
-      picture = record {
-        grid = grid;
-        sizes = accepted-classes.sizes;
-        ctb_size = accepted-classes.ctb_size;
-        depth = accepted-classes.bit_depth;
-      };
       map_length = map-length;
       luma_length = rw (div-one l.picture.width, div-one l.picture.height) at (luma-length classes (classes_input l luma n) ok refl);
       samples = λ k. sample_bound l.picture accepted-classes.bit_depth (luma-samples classes (classes_input l luma n) ok refl k);
     }
 
     -- for the CTB at address k, whose sides are these
-    pub ctb-given : (s : Sides) (k : ℕ) → k < g.columns * g.rows → let x = axes_through l g s 4 k in (ClassWork l.picture g luma n)
+    pub ctb-given : (s : Sides) (k : ℕ) → k < g.columns * g.rows → let x = axes_through l g s 4 k in (ClassWork l.picture luma n)
         × (AlongAxes x) × (x.columns.size ≡ l.picture.width) × (x.rows.size ≡ l.picture.height)
     ctb-given s k below =
         let lists = lists_valid l accepted-classes.virtual_boundaries in
         let begins = ctb_in_picture grid k below in
-        let picture = class_work.picture in (
+        let picture = accepted-frame in (
           class_work,
           (columns_along picture s (k % g.columns) lists.0 begins.0, rows_along picture s (k / g.columns) walk_luma lists.1 begins.1),
           refl,

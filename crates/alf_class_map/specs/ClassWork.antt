@@ -3,21 +3,18 @@ use Rattle.std.specs.Prelude.{◌≡◌, Bool, List, ℕ, ◌*◌, ◌/◌, ◌<
 use Rattle.alf_spec.specs.declared.ClipCause.{ClipCause}
 use Rattle.alf_spec.specs.declared.Ctb.{Ctb}
 use Rattle.alf_spec.specs.declared.Picture.{Picture}
-use Rattle.alf_spec.specs.declared.Grid.{Grid}
 use Rattle.alf_spec.specs.declared.Sides.{Sides}
 use Rattle.alf_spec.specs.Lists.{painted}
 use Rattle.alf_spec.specs.Input.{Layout}
 use Rattle.alf_spec.specs.Geometry.{Side, Axis, luma_plane}
 use Rattle.alf_spec.specs.Boundary.{column_side, row_side}
 use Rattle.alf_spec.specs.Process.{class_at}
-use Rattle.alf_math.specs.Grids.{AcceptedPicture}
 use Rattle.alf_pieces.specs.declared.pieces.Piece.{Piece}
 use Rattle.alf_pieces.specs.Pieces.{PieceOf, CtbOf}
 use Rattle.alf_pieces.specs.Walks.{Axes, PiecesAlong, in_piece}
 
--- an accepted picture and its grid, the picture's map, and its luma samples
-pub record ClassWork (p : Picture) (g : Grid) (luma : List ℕ) (map : ℕ) : Type 0 where
-  pub picture : AcceptedPicture p g
+-- the map of an accepted picture, and its luma samples
+pub record ClassWork (p : Picture) (luma : List ℕ) (map : ℕ) : Type 0 where
   pub map_length : map ≡ p.width / 4 * (p.height / 4)
   pub luma_length : length luma ≡ p.width * p.height
   pub samples : (k : ℕ) → get_or luma k 0 < 4096

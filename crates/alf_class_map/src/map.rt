@@ -4,7 +4,7 @@ ghost use Rattle.alf_spec.specs.Input.{classes, classes_input};
 ghost use Rattle.alf_spec.specs.Process.{class_map};
 ghost use Rattle.alf_spec.specs.Faults.{fault};
 
-use crate::ctbs::{Rooms, class_ctb};
+use crate::ctbs::{Frame, Rooms, class_ctb};
 use alf_classify::AREA;
 use alf_math::grid::grid;
 use alf_pieces::walks::CtbAxes;
@@ -20,6 +20,7 @@ pub fn class_map(layout: &Layout, luma: &[u16], map: &mut [u8])
     let grid = grid(picture);
     let mut sides: [u16; CTBS] = [0; CTBS];
     plan_sides(layout, grid, &mut sides);
+    let frame = Frame { picture, grid };
     let mut rooms = Rooms {
         copy: [0; AREA],
         differences: [0; 4 * AREA],
@@ -27,6 +28,6 @@ pub fn class_map(layout: &Layout, luma: &[u16], map: &mut [u8])
     for k in 0..grid.columns * grid.rows {
         let own = sides_at(&sides, k);
         let axes = CtbAxes::through(layout, grid, own, 4, k);
-        class_ctb(picture, grid, own, &axes, luma, &mut rooms, map);
+        class_ctb(frame, own, &axes, luma, &mut rooms, map);
     }
 }

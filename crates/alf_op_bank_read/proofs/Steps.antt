@@ -46,7 +46,8 @@ module _ (file : List ℕ) (at limit from : ℕ) where
       → fault_number f ≡ all
   unfolding filters_fault
   loop_fault f t left =
-      let later = filters_fault limit (suc (order_of (id_of (drop at file)))) (fields (drop (at + (3 + length_of (drop at file))) file) 0) in
+      let field = drop at file in
+      let later = filters_fault limit (suc (order_of (id_of field))) (fields (drop (at + (3 + length_of field)) file) 0) in
       sym (decides f later)
       ∙ (ap (λ (n : ℕ). first_of n later) t.1 ∙ (sym (ap (filters_fault limit from) (at_field file at t.0)) ∙ left))
 

@@ -1,4 +1,5 @@
 // What a field of a bank file says: a field is given by the bytes from its tag to the end of the file.
+// It stays a slice, and `Reaches` a clause: is_whole and is_listed, which say whether it reaches, are asked of the same bytes before.
 ghost use Rattle.std.specs.Prelude.{◌≡◌, ◌+◌, ◌*◌, ◌≤◌, ◌<◌, length};
 ghost use Rattle.alf_bank.specs.Filters.{shape_of, order_of, id_valid};
 ghost use Rattle.alf_bank.specs.Reading.{length_of, whole, listed, id_of, tag_of, clip_at, clips_valid, zero_field};

@@ -5,6 +5,7 @@ ghost use Rattle.alf_bank.specs.Filters.{shape_of, count_of, start_of};
 ghost use Rattle.alf_bank.specs.Reading.{tag_of, id_of, signed_byte, coeff_at, clip_at, field_numbers, fields, filters_fault, filled};
 ghost use Rattle.alf_op_bank_read.specs.Fields.{Reaches, Storable};
 
+use crate::START;
 use crate::fields::{clip_word, id_of};
 use crate::reader::BankReader;
 use alf_bank::filters::{count_of, shape_of, start_of};
@@ -75,11 +76,10 @@ pub fn fill_bank(file: &[u8], limit: usize, bank: &mut [i16])
         × (filters_fault limit 0 (fields (drop 4 file.now) 0) ≡ 0) }
     ensures { bank.new ≡ filled bank.old (fields (drop 4 file.now) 0) }
 {
-    let mut at = 4;
-    let mut from = 0;
-    while let Ok(Some(step)) = (BankReader { file, at }).step(limit, from) {
-        store_at(file, at, bank);
-        at = step.at;
-        from = step.from;
+    let mut reader = BankReader { file, here: START };
+    // stays a `while`: a step is as long as its field says, so that no index is counted and no number of turns is known before
+    while let Ok(Some(next)) = reader.step(limit) {
+        store_at(reader.file, reader.here.at, bank);
+        reader.here = next;
     }
 }

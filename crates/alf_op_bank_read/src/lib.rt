@@ -16,23 +16,25 @@ use fill::fill_bank;
 use judge::{clip_limit, first_depth};
 use reader::BankReader;
 
-// What comes after a filter's field: the position behind it, and the first place in file order that may come next.
+// A position in a file that is being read, and the first place in file order that may come next.
 #[derive(Clone, Copy)]
 pub struct Step {
     pub at: usize,
     pub from: usize,
 }
 
+// Behind tag 1, with no filter read.
+const START: Step = Step { at: 4, from: 0 };
+
 // The lowest fault of the first faulty field after tag 1. Clips go up to the limit.
 fn filters_fault(file: &[u8], limit: usize) -> Result<(), Fault>
     requires { 4 ≤ length file.now }
     ensures { number_of result ≡ filters_fault limit 0 (fields (drop 4 file.now) 0) }
 {
-    let mut at = 4;
-    let mut from = 0;
-    while let Some(step) = (BankReader { file, at }).step(limit, from)? {
-        at = step.at;
-        from = step.from;
+    let mut reader = BankReader { file, here: START };
+    // stays a `while`: a step is as long as its field says, so that no index is counted and no number of turns is known before
+    while let Some(next) = reader.step(limit)? {
+        reader.here = next;
     }
     Ok(())
 }

@@ -11,22 +11,23 @@ use alf_spec::Fault;
 #[derive(Clone, Copy)]
 pub struct BankReader<'a> {
     pub file: &'a [u8],
-    pub at: usize,
+    pub here: Step,
 }
 
 impl<'a> BankReader<'a> {
-    // What stands at a position after tag 1: nothing where the file ends, else a filter's field, or its lowest fault. Clips go up to the
-    // limit; filters come from place `from` of file order on.
-    pub fn step(self, limit: usize, from: usize) -> Result<Option<Step>, Fault>
-        ensures { Seen result self.entry.file.now self.entry.at limit from }
+    // What stands at a position after tag 1: nothing where the file ends, else a filter's field, behind which the reading goes on, or its
+    // lowest fault. Clips go up to the limit.
+    pub fn step(self, limit: usize) -> Result<Option<Step>, Fault>
+        ensures { Seen result self.entry.file.now self.entry.here.at limit self.entry.here.from }
     {
-        if self.file.len() <= self.at {
+        let here = self.here;
+        if self.file.len() <= here.at {
             return Ok(None);
         }
-        let field = &self.file[self.at..];
-        filter_fault(field, limit, from)?;
+        let field = &self.file[here.at..];
+        filter_fault(field, limit, here.from)?;
         Ok(Some(Step {
-            at: self.at + (3 + length_of(field)),
+            at: here.at + (3 + length_of(field)),
             from: order_of(id_of(field)) + 1,
         }))
     }

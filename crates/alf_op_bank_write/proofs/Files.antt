@@ -50,7 +50,8 @@ module _ (bank : List ℤ) (k at : ℕ) (old : List ℕ) {i : FilterId} (ei : i 
   pub skipped_file : z ≡ true → old ≡ overwrite at (filter_field bank (filter_at k)) old
   skipped_file q = rw (empty q) (overwrite_none at old)
 
-  pub written_at : z ≡ false → {size : ℕ} → size ≡ size_of (shape_of i.tag) → at + (3 + size) ≡ at + length (filter_field bank (filter_at k))
+  pub written_at : z ≡ false → {size : ℕ} → size ≡ size_of (shape_of i.tag)
+      → at + (3 + size) ≡ at + length (filter_field bank (filter_at k))
   written_at q e = rw (full q, e, ei) (omega (arith, bytes_length bank (filter_at k)))
 
   pub written_file : z ≡ false → {new : List ℕ} → new ≡ overwrite at (field_bytes bank i) old

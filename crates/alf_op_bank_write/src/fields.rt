@@ -9,6 +9,14 @@ ghost use Rattle.alf_op_bank_write.specs.FieldBytes.{head_of, field_bytes, Writa
 use alf_bank::FilterId;
 use alf_bank::filters::{count_of, shape_of, size_of, start_of};
 
+// A filter of a bank whose numbers can be written.
+#[derive(Clone, Copy)]
+struct BankFilter<'a> {
+    bank: &'a [i16],
+    id: FilterId,
+    ghost writable: { Writable bank.now id },
+}
+
 // The filter at a place of file order.
 #[tactic(auto, unfolding(alf_bank::specs::Filters::filter_at))]
 fn filter_at(k: usize) -> FilterId
@@ -48,27 +56,26 @@ fn coeff_byte(z: i16) -> u8
 }
 
 // Number j of a filter.
-fn number_of(bank: &[i16], id: FilterId, j: usize) -> i16
-    requires { (start_of id + count_of (shape_of id.tag) ≤ length bank.now) × (j < count_of (shape_of id.tag)) }
-    ensures { result ≡ filter_number bank.now id j }
+fn number_of(filter: BankFilter, j: usize) -> i16
+    requires { j < count_of (shape_of filter.id.tag) }
+    ensures { result ≡ filter_number filter.entry.bank.now filter.entry.id j }
 {
-    bank[start_of(id) + j]
+    filter.bank[start_of(filter.id) + j]
 }
 
 // Whether number j of a filter is zero.
-fn zero_at(bank: &[i16], id: FilterId, j: usize) -> bool
-    requires { (start_of id + count_of (shape_of id.tag) ≤ length bank.now) × (j < count_of (shape_of id.tag)) }
-    ensures { result ≡ zero_at bank.now id j }
+fn zero_at(filter: BankFilter, j: usize) -> bool
+    requires { j < count_of (shape_of filter.id.tag) }
+    ensures { result ≡ zero_at filter.entry.bank.now filter.entry.id j }
 {
-    number_of(bank, id, j) == 0
+    number_of(filter, j) == 0
 }
 
 // Whether the filter's numbers are all zero.
-fn all_zero(bank: &[i16], id: FilterId) -> bool
-    requires { start_of id + count_of (shape_of id.tag) ≤ length bank.now }
-    ensures { result ≡ all_zero bank.now id }
+fn all_zero(filter: BankFilter) -> bool
+    ensures { result ≡ all_zero filter.entry.bank.now filter.entry.id }
 {
-    (0..count_of(id.tag)).all(|j| zero_at(bank, id, j))
+    (0..count_of(filter.id.tag)).all(|j| zero_at(filter, j))
 }
 
 // The second leading number.
@@ -99,19 +106,19 @@ fn head_byte(id: FilterId, k: usize) -> u8
 }
 
 // The byte of coefficient j.
-fn coeff_of(bank: &[i16], id: FilterId, j: usize) -> u8
-    requires { Writable bank.now id × (j < (shape_of id.tag).coeffs) }
-    ensures { result ≡ byte_of (filter_number bank.now id j) }
+fn coeff_of(filter: BankFilter, j: usize) -> u8
+    requires { j < (shape_of filter.id.tag).coeffs }
+    ensures { result ≡ byte_of (filter_number filter.entry.bank.now filter.entry.id j) }
 {
-    coeff_byte(number_of(bank, id, j))
+    coeff_byte(number_of(filter, j))
 }
 
 // Number j, a clip.
-fn clip_of(bank: &[i16], id: FilterId, coeffs: usize, j: usize) -> u16
-    requires { Writable bank.now id × (coeffs ≡ (shape_of id.tag).coeffs) × (j < (shape_of id.tag).clips) }
-    ensures { result ≡ nat_abs (filter_number bank.now id (coeffs + j)) }
+fn clip_of(filter: BankFilter, coeffs: usize, j: usize) -> u16
+    requires { (coeffs ≡ (shape_of filter.id.tag).coeffs) × (j < (shape_of filter.id.tag).clips) }
+    ensures { result ≡ nat_abs (filter_number filter.entry.bank.now filter.entry.id (coeffs + j)) }
 {
-    number_of(bank, id, coeffs + j).unsigned_abs()
+    number_of(filter, coeffs + j).unsigned_abs()
 }
 
 // A byte of a clip: the first is the most significant.
@@ -123,29 +130,29 @@ fn clip_byte(clip: u16, first: bool) -> u8
 }
 
 // Byte k of a filter's field.
-fn field_byte(bank: &[i16], id: FilterId, k: usize) -> u8
-    requires { Writable bank.now id × (k < 3 + size_of (shape_of id.tag)) }
-    ensures { result ≡ get_or (field_bytes bank.now id) k 0 }
+fn field_byte(filter: BankFilter, k: usize) -> u8
+    requires { k < 3 + size_of (shape_of filter.id.tag) }
+    ensures { result ≡ get_or (field_bytes filter.entry.bank.now filter.entry.id) k 0 }
 {
-    let shape = shape_of(id.tag);
+    let shape = shape_of(filter.id.tag);
     if k < 3 + shape.leads {
-        return head_byte(id, k);
+        return head_byte(filter.id, k);
     }
     let j = k - (3 + shape.leads);
     if j < shape.coeffs {
-        return coeff_of(bank, id, j);
+        return coeff_of(filter, j);
     }
     let m = j - shape.coeffs;
-    clip_byte(clip_of(bank, id, shape.coeffs, m / 2), m % 2 == 0)
+    clip_byte(clip_of(filter, shape.coeffs, m / 2), m % 2 == 0)
 }
 
 // Writes a filter's field at a position.
-fn write_field(bank: &[i16], id: FilterId, file: &mut [u8], at: usize)
-    requires { Writable bank.now id × (at + (3 + size_of (shape_of id.tag)) ≤ length file.old) }
-    ensures { file.new ≡ overwrite at (field_bytes bank.now id) file.old }
+fn write_field(filter: BankFilter, file: &mut [u8], at: usize)
+    requires { at + (3 + size_of (shape_of filter.id.tag)) ≤ length file.old }
+    ensures { file.new ≡ overwrite at (field_bytes filter.entry.bank.now filter.entry.id) file.old }
 {
-    for k in 0..3 + size_of(id.tag) {
-        file[at + k] = field_byte(bank, id, k);
+    for k in 0..3 + size_of(filter.id.tag) {
+        file[at + k] = field_byte(filter, k);
     }
 }
 
@@ -156,9 +163,10 @@ pub fn write_filter(bank: &[i16], k: usize, file: &mut [u8], at: usize) -> usize
         × (file.new ≡ overwrite at (filter_field bank.now (filter_at k)) file.old) }
 {
     let id = filter_at(k);
-    if all_zero(bank, id) {
+    let filter = BankFilter { bank, id };
+    if all_zero(filter) {
         return at;
     }
-    write_field(bank, id, file, at);
+    write_field(filter, file, at);
     at + (3 + size_of(id.tag))
 }

@@ -11,6 +11,7 @@ ghost use Rattle.alf_math.specs.Integers.{ClipRange};
 use alf_direction::direction::activity;
 use alf_math::rounding::{filtered, rounded};
 use alf_math::taps::tap;
+use classes::sums;
 use std::io;
 
 // A number, and what comes of it.
@@ -54,15 +55,15 @@ fn main(rt: HostRuntime) -> io::Result<()> {
     show_rounded(&rt, 959, 10)?;
     show_rounded(&rt, 960, 10)?;
     print!(rt; "\nP3 ")?;
-    classes::show_class(&rt, 0, 0, 0, 0, 8)?;
+    classes::show_class(&rt, sums(0, 0, 0, 0), 8)?;
     print!(rt; "\nP4 ")?;
-    classes::show_class(&rt, 10, 2, 4, 4, 8)?;
+    classes::show_class(&rt, sums(10, 2, 4, 4), 8)?;
     print!(rt; "\nP5 ")?;
-    classes::show_class(&rt, 9, 2, 4, 4, 8)?;
+    classes::show_class(&rt, sums(9, 2, 4, 4), 8)?;
     print!(rt; "\nP6 ")?;
-    classes::show_class(&rt, 3, 3, 8, 1, 8)?;
+    classes::show_class(&rt, sums(3, 3, 8, 1), 8)?;
     print!(rt; "\nP7 ")?;
-    classes::show_class(&rt, 5, 0, 7, 0, 8)?;
+    classes::show_class(&rt, sums(5, 0, 7, 0), 8)?;
     print!(rt; "\nP8   activity of V + H, depth 10:")?;
     show_activity(&rt, 3839)?;
     show_activity(&rt, 3840)?;

@@ -8,7 +8,7 @@ use Rattle.alf_class_map.proofs.ctbs.class_ctb.Given as goal
 abbrev pub invariant-loop-at : goal.invariant-loop-at
 invariant-loop-at l = record {
   stands : Stands l.axes l.at;
-  classified : AxesClassified l.picture l.sides l.axes l.luma (passed (l.picture.width / 4) 4 4 l.axes l.at) l.fn.map l.map;
+  classified : AxesClassified l.frame.picture l.sides l.axes l.luma (passed (l.frame.picture.width / 4) 4 4 l.axes l.at) l.fn.map l.map;
 }
 
 abbrev pub decreases-loop-at : goal.decreases-loop-at

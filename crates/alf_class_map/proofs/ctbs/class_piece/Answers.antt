@@ -13,11 +13,11 @@ pub piece_classes-requires : goal.piece_classes-requires
 piece_classes-requires c =
     let room : copy_length c.args.columns c.args.rows ≤ length c.args.rooms.now.copy =
     copy_fits c.requires.1.numbers c.requires.2.numbers (omega arith) in (
-      record { picture = c.requires.0.picture; copy_room = omega arith; difference_room = omega arith },
+      record { picture = c.args.frame.accepted; copy_room = omega arith; difference_room = omega arith },
       c.requires.1,
       c.requires.2,
       copy_small _ _ _ _ _ _ _ c.copy_piece.ensures room 4096 c.requires.0.samples,
-      own_map c.requires.0 c.requires.1 c.requires.2,
+      own_map c.args.frame.accepted c.requires.0 c.requires.1 c.requires.2,
     )
 
 -- the copy holds the windows of the piece's blocks
@@ -28,4 +28,4 @@ returns c =
     let written = rw ((blocks c.requires.1).last, (blocks c.requires.2).last) at c.piece_classes.ensures in
     λ l ctb of across down.
     paint_is (paint_same (paint_of written) (λ k h. refl)
-    (λ k h. class_same of c.requires.0.picture.grid across down _ _ _ c.copy_piece.ensures room k))
+    (λ k h. class_same of c.args.frame.accepted.grid across down _ _ _ c.copy_piece.ensures room k))

@@ -8,7 +8,7 @@ use Rattle.alf_pieces.specs.CtbRegions.{before_ctb_if}
 use Rattle.alf_pieces.proofs.CtbPieces.{ctb-accepted, column_pieces, row_pieces}
 use Rattle.alf_pieces.proofs.CtbRegions.{ctb-painted, ctbs_none, ctbs-next, ctb_passes_lem, all_painted}
 use Rattle.alf_sides.proofs.PlannedSides.{planned_sides}
-use Rattle.alf_class_map.proofs.ClassInputs.{whole-blocks, accepted-classes, map-length, ctb-given}
+use Rattle.alf_class_map.proofs.ClassInputs.{whole-blocks, accepted-classes, accepted-frame, map-length, ctb-given}
 use Rattle.alf_class_map.proofs.map.class_map.Invariants.{every}
 use Rattle.alf_class_map.proofs.map.class_map.Goals as goal
 
@@ -27,6 +27,12 @@ plan_sides-requires c =
 
 pub loop-k-init : goal.loop-k-init
 loop-k-init c = ctbs_none _ _ _ _
+
+pub invariant_of-frame : goal.invariant_of-frame
+invariant_of-frame c =
+    let picture = ap (λ (l : Layout). l.picture) c.layout.view_is in
+    let grid = rw picture at c.grid-grid.ensures in
+    record { accepted = rw picture (accepted-frame c.args.layout.now c.args.luma.now _ c.requires grid) }
 
 pub class_ctb-requires : goal.class_ctb-requires
 class_ctb-requires c =

@@ -9,9 +9,9 @@ use Rattle.alf_op_bank_write.proofs.fields.all_zero.Goals as goal
 
 pub returns : goal.returns
 returns c =
-    let bank : List ℤ = c.args.bank.now in
+    let bank : List ℤ = c.args.filter.bank.now in
     let n : ℕ = c.count_of.result in
-    zeros_all bank c.args.id c.count_of.ensures.0
-    (all_from_yields_List (zero_at bank c.args.id) _ _ _ c.all.ensures.ran (YieldsList-from_range 0 n n refl (omega arith))
+    zeros_all bank c.args.filter.id c.count_of.ensures.0
+    (all_from_yields_List (zero_at bank c.args.filter.id) _ _ _ c.all.ensures.ran (YieldsList-from_range 0 n n refl (omega arith))
     (λ x b q k. search (rules, tests))
-    ∙ all_range (zero_at bank c.args.id) n)
+    ∙ all_range (zero_at bank c.args.filter.id) n)

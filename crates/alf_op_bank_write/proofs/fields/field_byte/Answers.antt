@@ -11,5 +11,5 @@ returns-then-j-shape c =
 
 pub returns : goal.returns
 returns c =
-    byte_clip _ _ c.shape_of-shape.ensures.0 c.shape_of-shape.ensures.1 c.if-k-shape.false c.if-j-shape.false c.requires.1 c.clip_of.ensures
+    byte_clip _ _ c.shape_of-shape.ensures.0 c.shape_of-shape.ensures.1 c.if-k-shape.false c.if-j-shape.false c.requires c.clip_of.ensures
     c.clip_byte.ensures

@@ -5,5 +5,5 @@ use Rattle.alf_op_bank_write.proofs.fields.number_of.Goals as goal
 
 pub returns : goal.returns
 returns c =
-    let f : FitsSigned w16 (get_or c.args.bank.now (c.start_of.result + c.args.j) (pos 0)) = search rules in
+    let f : FitsSigned w16 (get_or c.args.filter.bank.now (c.start_of.result + c.args.j) (pos 0)) = search rules in
     number_is _ _ _ c.start_of.ensures f.sfits

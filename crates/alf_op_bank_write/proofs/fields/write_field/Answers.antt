@@ -6,8 +6,8 @@ use Rattle.alf_op_bank_write.proofs.fields.write_field.Goals as goal
 
 pub loop-k-preserved : goal.loop-k-preserved
 loop-k-preserved c =
-    let n = bytes_length c.args.bank.now c.args.id in
+    let n = bytes_length c.args.filter.bank.now c.args.filter.id in
     paste_more 0 _ c.loop-k.invariant (omega arith) (omega arith) c.field_byte.ensures
 
 pub returns : goal.returns
-returns c = let n = bytes_length c.args.bank.now c.args.id in paste_done c.loop-k.invariant (omega arith)
+returns c = let n = bytes_length c.args.filter.bank.now c.args.filter.id in paste_done c.loop-k.invariant (omega arith)

@@ -4,4 +4,4 @@ use Rattle.alf_op_bank_write.specs.FieldBytes.{field_bytes}
 use Rattle.alf_op_bank_write.proofs.fields.write_field.Given as goal
 
 abbrev pub invariant-loop-k : goal.invariant-loop-k
-invariant-loop-k l = Pasted l.at (field_bytes l.bank l.id) l.initial.file l.k l.file
+invariant-loop-k l = Pasted l.at (field_bytes l.filter.bank.now l.filter.id) l.initial.file l.k l.file
