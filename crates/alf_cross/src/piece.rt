@@ -14,10 +14,11 @@ ghost use Rattle.alf_cross.specs.Pieces.{CrossPlanes, CrossWork, SmallCopy, Cros
 
 use crate::kernel::{CrossRow, cross_row};
 use crate::rows::{coefficients, cross_starts, rows_at};
-use crate::source::{CrossSource, LumaPiece};
+use crate::source::CrossSource;
 use crate::split::split_rows;
 use alf_math::grid::{sub_height, sub_width};
 use alf_pieces::copies::{copy_piece, extent, plane_index};
+use alf_pieces::luma_pieces::LumaPiece;
 use alf_pieces::pieces::Piece;
 use alf_spec::{Grid, Picture, Sides};
 

@@ -10,7 +10,7 @@ use Rattle.alf_spec.specs.declared.Grid.{Grid}
 use Rattle.alf_spec.specs.declared.Picture.{Picture}
 use Rattle.alf_spec.specs.Lists.{painted}
 use Rattle.alf_spec.specs.Process.{class_number}
-use Rattle.alf_luma.specs.declared.piece.LumaPiece.{LumaPiece}
+use Rattle.alf_pieces.specs.declared.luma_pieces.LumaPiece.{LumaPiece}
 use Rattle.alf_lists.specs.Regions.{in_rect}
 use Rattle.alf_lists.specs.Filled.{Filled}
 use Rattle.alf_lists.proofs.Painted.{paint_is, paint_of, paint_same}

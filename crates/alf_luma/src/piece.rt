@@ -23,6 +23,7 @@ use crate::spread::spread;
 use alf_boundary::clips::line_rule;
 use alf_classify::{AREA, piece_classes};
 use alf_pieces::copies::{copy_piece, extent, plane_index};
+use alf_pieces::luma_pieces::LumaPiece;
 use alf_pieces::pieces::Piece;
 use alf_spec::{Grid, LumaRows, Picture, Sides};
 use alf_taps::{SPREAD, TapSource};
@@ -48,18 +49,6 @@ fn starts(pitch: usize, t: usize, r: LumaRows) -> Starts
         below2: (here + y2) * pitch,
         below3: (here + y3) * pitch,
     }
-}
-
-// A piece of whole blocks in the luma plane of an accepted picture.
-#[derive(Clone, Copy)]
-pub struct LumaPiece {
-    pub picture: Picture,
-    pub grid: Grid,
-    pub columns: Piece,
-    pub rows: Piece,
-    pub ghost accepted: { AcceptedPicture picture grid },
-    pub ghost across: { BlockPiece picture.width columns },
-    pub ghost down: { BlockPiece picture.height rows },
 }
 
 // The piece's row t.

@@ -3,5 +3,6 @@
 #![tactic(auto)]
 
 pub mod copies;
+pub mod luma_pieces;
 pub mod pieces;
 pub mod walks;
