@@ -27,6 +27,27 @@ fn layout() -> Layout<'static> {
     }
 }
 
+// What the luma filter is given of the picture, with these parameters of the CTBs.
+fn luma_input<'a>(
+    bank: &'a [i16],
+    ctb_params: &'a [u8],
+    fixed_filters: &'a [i16],
+    fixed_map: &'a [u8],
+    luma: &'a [u16],
+) -> FilterInput<'a> {
+    FilterInput {
+        layout: layout(),
+        slice_params: &SLICE_PARAMS,
+        bank,
+        ctb_params,
+        ctb_list: &CTB_LIST,
+        fixed_filters,
+        fixed_map,
+        luma,
+        chroma: &[],
+    }
+}
+
 // What the chroma filter and the cross-component filter are given of the picture.
 fn chroma_input<'a>(bank: &'a [i16], luma: &'a [u16], chroma: &'a [u16]) -> FilterInput<'a> {
     FilterInput {
@@ -69,17 +90,7 @@ fn show_luma(
     let mut fixed_map = [0u8; 400];
     fill_fixed_filters(&mut fixed_filters);
     fill_fixed_map(&mut fixed_map);
-    let input = FilterInput {
-        layout: layout(),
-        slice_params: &SLICE_PARAMS,
-        bank,
-        ctb_params,
-        ctb_list: &CTB_LIST,
-        fixed_filters: &fixed_filters,
-        fixed_map: &fixed_map,
-        luma,
-        chroma: &[],
-    };
+    let input = luma_input(bank, ctb_params, &fixed_filters, &fixed_map, luma);
     let answer = alf::luma(&input, output);
     print_outcome(rt, text, number(&answer))
 }

@@ -11,6 +11,8 @@ pub fn show(rt: &impl Print) -> io::Result<()> {
     let mut map = [255u8; 100];
     fill_bank(&mut bank);
     draw_luma(&mut luma);
-    println!(rt; "40 by 40, four CTBs: two slices, a virtual column at 16, the second CTB not listed")?;
+    println!(rt;
+        "40 by 40, four CTBs: two slices, a virtual column at 16, the second CTB not listed"
+    )?;
     show_picture(rt, &bank, &luma, &mut map)
 }

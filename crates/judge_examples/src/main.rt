@@ -81,7 +81,9 @@ fn main(rt: HostRuntime) -> io::Result<()> {
         &rt,
         b"\x00\x00\x00\x00\x01\x01\x01\x01\x00\x00\x00\x00\x01\x01\x01\x01\x00\x00\x00\x00\x01\x01\x01\x01\x00\x00\x00\x00\x01\x01\x01\x01",
     )?;
-    println!(&rt; "the number answered where this cause alone is broken, and where all from it to 13 are")?;
+    println!(&rt;
+        "the number answered where this cause alone is broken, and where all from it to 13 are"
+    )?;
     damaged::show_all(&rt)?;
     println!(&rt; "the number answered where this alone is broken, 0 where it is sound")?;
     rows::show_rows(&rt)?;
