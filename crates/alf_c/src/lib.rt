@@ -1,5 +1,6 @@
-// The C interface (include/alf.h): each operation under its C name. Numbers pass as themselves, a slice as a pointer and a length; what is
-// returned is the number of 01's table and of 02's cards, 0 where the input is accepted.
+// The C interface (include/alf.h): each operation under its C name, with its arguments one by one, as C lends them. Numbers pass as
+// themselves, a slice as a pointer and a length; what is returned is the number of 01's table and of 02's cards, 0 where the input is
+// accepted.
 #![tactic(auto)]
 
 mod bank_read;

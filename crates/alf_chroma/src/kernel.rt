@@ -53,7 +53,7 @@ fn chroma_at(source: &TapSource<ChromaStarts>, x: usize) -> u16
     )
 }
 
-// The filtered samples of n columns, put into the plane from the index `from` on.
+// The filtered samples of n columns, put into the plane from the index `from` on, as luma has it (alf_luma's `luma_row` says why apart).
 pub(crate) fn chroma_row(
     source: &TapSource<ChromaStarts>,
     n: usize,

@@ -44,6 +44,7 @@ pub fn filter_ctb(
         output.old output.new) × (TapNumbers taps.new) }
 {
     let mut at = Some(first_piece(axes));
+    // stays a `while`: how many pieces there are is known at the last one
     while let Some(piece) = at {
         filter_piece(
             filter,

@@ -13,7 +13,7 @@ use alf_math::grid::grid;
 use alf_sides::{CTBS, plan_sides};
 use alf_spec::{Filter, FilterInput};
 
-// The plane that a filter filters.
+// The plane that a filter filters: a match, since the kinds are three and the planes two.
 fn copy_input(filter: Filter, input: &FilterInput, output: &mut [u16])
     requires { length (plane_filtered filter input.now.luma input.now.chroma) ≡ length output.old }
     ensures { output.new ≡ plane_filtered filter input.now.luma input.now.chroma }

@@ -62,8 +62,8 @@ fn block_passes(columns: &BlockAxis, region: &[u8], row: BlockRow, x: u32) -> bo
     neighbours_inside(region, (columns.size / 8) as usize, k, own)
 }
 
-// Whether each of so many blocks of a row passes, from column `first` on. A `for` and no `all`: of a chain that calls with two lent records
-// the search found no proof.
+// Whether each of so many blocks of a row passes, from column `first` on. A `for` and no `all`: the proof of a closure that lends two
+// records on did not close.
 pub fn run_passes(columns: &BlockAxis, region: &[u8], row: BlockRow, first: u32, count: u32) -> bool
     requires { (RowIn columns.now.size columns.now.ctb (length region.now) row.from row.sides) × (first + count ≤ columns.now.size / 8) }
     ensures { result ≡ all_below count (λ i.

@@ -12,7 +12,7 @@ use alf_math::grid::grid;
 use alf_sides::{CTBS, plan_sides, sides_at};
 use alf_spec::{Ctb, Grid, Layout, Sides};
 
-// Whether each block of the CTB passes. The sides of a row of blocks are found once.
+// Whether each block of the CTB passes. The sides of a row of blocks are found once. A `for` here and below, as in `run_passes`.
 fn ctb_passes(layout: &Layout, size: u32, region: &[u8], ctb: Ctb, sides: Sides) -> bool
     requires { (BlocksOf layout.now.picture size region.now)
         × (ctb.column * size < layout.now.picture.width) × (ctb.row * size < layout.now.picture.height) }

@@ -88,7 +88,8 @@ pub record PieceCopy (columns rows : Piece) (copy : List ℕ) : Type 0 where
   pub room : copy_length columns rows ≤ length copy
   pub samples : (k : ℕ) → k < copy_length columns rows → get_or copy k 0 < 4096
 
--- what a piece is filtered with: what each of its rows of blocks is, and the picture's luma samples
+-- what a piece is filtered with: what each of its rows of blocks is, the picture's luma samples, and room for the piece's copy and
+-- differences
 pub record LumaPieceInput (p : Picture) (g : Grid) (luma : List ℕ) (filters : List ℤ) (orders : List ℕ)
     (copy differences : ℕ) (taps : List ℤ) (output : ℕ) : Type 0 where
   pub blocks : BlockRowInput p g filters orders taps output

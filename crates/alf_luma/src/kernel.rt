@@ -59,8 +59,8 @@ fn luma_at(source: &TapSource<Starts>, x: usize) -> u16
     filtered(curr, luma_sum(source, curr, x), source.shift, source.depth)
 }
 
-// A row of n filtered samples, put into the plane from the index `from` on. Chroma has a loop like it: as one, over a closure that filters
-// the sample at a column, it proves, but each use of it has to show by hand how long what the closure borrows lives.
+// A row of n filtered samples, put into the plane from the index `from` on. Chroma has a loop like it. One loop over a closure is no plainer:
+// each use has to show how long what it borrows lives.
 pub(crate) fn luma_row(source: &TapSource<Starts>, n: usize, output: &mut [u16], from: usize)
     requires { (RowReads source.now.copy.now source.now.starts n) × (n ≤ 128) × (from + n ≤ length output.old) }
     ensures { output.new ≡ painted output.old (between from n)

@@ -6,7 +6,7 @@ ghost use Rattle.alf_math.specs.Grids.{GridOf};
 
 use alf_spec::{Grid, Picture};
 
-// SubWidthC
+// SubWidthC. It and SubHeightC stay two functions, as the standard has two.
 #[tactic(auto, unfolding(alf_spec::specs::Geometry::sub_width))]
 pub fn sub_width(picture: Picture) -> u32
     ensures { (result ≡ sub_width picture) × (0 < result) }

@@ -7,6 +7,7 @@ ghost use Rattle.alf_op_bank_read.specs.Fields.{Reaches};
 use crate::fields::{clips_valid, id_of, id_valid, is_listed, is_whole, order_of, zero_field};
 use alf_spec::Fault;
 use alf_validate_layout::picture::depth_valid;
+use alf_validate_layout::require::require;
 
 // Whether the tag of a field is 1, which is that of the bit depth.
 #[tactic(auto, unfolding(alf_bank::specs::Reading::is_depth))]
@@ -23,23 +24,15 @@ pub fn first_depth(field: &[u8]) -> Result<u8, Fault>
     ensures fault { number_of result ≡ field_fault true 0 0 field.now }
     ensures depth { IfOk result (λ d. (d ≡ get_or field.now 3 0) × (d ≤ 12) × (4 ≤ length field.now)) }
 {
-    if !is_whole(field) {
-        return Err(Fault::FieldCutShort);
-    }
-    if !is_listed(field) {
-        return Err(Fault::FieldUnlisted);
-    }
+    require(is_whole(field), Fault::FieldCutShort)?;
+    require(is_listed(field), Fault::FieldUnlisted)?;
     if is_depth(field) {
         let depth = field[3];
-        if depth_valid(depth) {
-            return Ok(depth);
-        }
-        return Err(Fault::BitDepth);
+        require(depth_valid(depth), Fault::BitDepth)?;
+        return Ok(depth);
     }
-    if id_valid(id_of(field)) {
-        return Err(Fault::FieldOutOfPlace);
-    }
-    Err(Fault::FieldUnlisted)
+    require(id_valid(id_of(field)), Fault::FieldUnlisted)?;
+    Err(Fault::FieldOutOfPlace)
 }
 
 // Whether a filter's field is in place: from place `from` of file order on, and not all zero.
@@ -56,28 +49,15 @@ fn in_place(field: &[u8], from: usize) -> bool
 pub fn filter_fault(field: &[u8], limit: usize, from: usize) -> Result<(), Fault>
     ensures { number_of result ≡ field_fault false limit from field.now }
 {
-    if !is_whole(field) {
-        return Err(Fault::FieldCutShort);
-    }
-    if !is_listed(field) {
-        return Err(Fault::FieldUnlisted);
-    }
+    require(is_whole(field), Fault::FieldCutShort)?;
+    require(is_listed(field), Fault::FieldUnlisted)?;
     if is_depth(field) {
-        if depth_valid(field[3]) {
-            return Err(Fault::FieldOutOfPlace);
-        }
-        return Err(Fault::BitDepth);
-    }
-    if !clips_valid(field, limit) {
-        return Err(Fault::Filter);
-    }
-    if !id_valid(id_of(field)) {
-        return Err(Fault::FieldUnlisted);
-    }
-    if !in_place(field, from) {
+        require(depth_valid(field[3]), Fault::BitDepth)?;
         return Err(Fault::FieldOutOfPlace);
     }
-    Ok(())
+    require(clips_valid(field, limit), Fault::Filter)?;
+    require(id_valid(id_of(field)), Fault::FieldUnlisted)?;
+    require(in_place(field, from), Fault::FieldOutOfPlace)
 }
 
 // The largest clip that a bit depth allows.

@@ -13,6 +13,7 @@ ghost use Rattle.alf_op_bank_write.specs.FieldBytes.{Writable};
 
 use alf_spec::Fault;
 use alf_validate_layout::picture::depth_valid;
+use alf_validate_layout::require::require;
 use alf_validate_tables::filters::bank_valid;
 use fields::write_filter;
 
@@ -50,16 +51,9 @@ fn lengths_fit(bank_length: usize, room: usize) -> bool
 fn judge_bank(bit_depth: u8, bank: &[i16], room: usize) -> Result<(), Fault>
     ensures { number_of result ≡ write_fault bit_depth bank.now room }
 {
-    if !depth_valid(bit_depth) {
-        return Err(Fault::BitDepth);
-    }
-    if !lengths_fit(bank.len(), room) {
-        return Err(Fault::Length);
-    }
-    if !bank_valid(bit_depth, bank) {
-        return Err(Fault::Filter);
-    }
-    Ok(())
+    require(depth_valid(bit_depth), Fault::BitDepth)?;
+    require(lengths_fit(bank.len(), room), Fault::Length)?;
+    require(bank_valid(bit_depth, bank), Fault::Filter)
 }
 
 // The lowest fault, or the length of the file. What lies beyond that length stays, and so does all where the bank is refused.

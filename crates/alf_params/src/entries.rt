@@ -13,7 +13,7 @@ pub(crate) fn ctb_number(input: &FilterInput, k: usize, n: usize) -> u8
     numbers[8 * k + n]
 }
 
-// The slice of the CTB at address k. A function of its own, since the prover follows one lent record at a time.
+// The slice of the CTB at address k, which the layout alone says.
 fn slice_at(layout: &Layout, k: usize) -> u8
     requires { k < length layout.now.slice_map }
     ensures { result ≡ get_or layout.now.slice_map k 0 }

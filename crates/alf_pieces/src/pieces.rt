@@ -36,7 +36,8 @@ pub fn ctb_limit(axis: CtbAxis) -> u32
 }
 
 // Where the piece ends that begins at x: with the first block of 4 samples whose last one has a clip position after it. With the line 4
-// rows above a CTB's bottom, or none, clip positions are multiples of 4, so that none stands within a block.
+// rows above a CTB's bottom, or none, clip positions are multiples of 4, so that none stands within a block. A `for` that ends early, and no
+// `find`: it says where the walk stands, which the proof goes by.
 fn piece_end(axis: CtbAxis, boundaries: &[u16], x: u32) -> u32
     requires { BlockAt axis x }
     ensures { (x < result) × (result ≤ limit_along axis)

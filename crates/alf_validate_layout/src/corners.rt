@@ -61,13 +61,13 @@ fn row_start(map: &[u8], columns: usize, rows: usize, y: usize) -> usize
 
 // Whether the rule holds at each corner; the first that breaks it ends both loops.
 pub fn corners_valid<R: CornerRule>(map: &[u8], columns: usize, rows: usize) -> bool
-    requires { (length map.now ≡ columns * rows) × (0 < columns) × (0 < rows) }
+    requires { length map.now ≡ columns * rows }
     ensures { result ≡ all_below (rows - 1) (corners_in_row R.rule map.now columns) }
 {
     let mut good = true;
-    'corners: for y in 0..rows - 1 {
+    'corners: for y in 0..rows.saturating_sub(1) {
         let from = row_start(map, columns, rows, y);
-        for x in 0..columns - 1 {
+        for x in 0..columns.saturating_sub(1) {
             good = corner_at::<R>(map, columns, from, x);
             if !good {
                 break 'corners;

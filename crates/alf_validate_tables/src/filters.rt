@@ -62,7 +62,8 @@ fn fixed_valid(input: &FilterInput) -> bool
     coefficients_valid(input.fixed_filters) & bytes_below(input.fixed_map, 64)
 }
 
-// Whether what a filter is given of filters is valid: the bank, and for luma the fixed tables.
+// Whether what a filter is given of filters is valid: the bank, and for luma the fixed tables. A match on `Filter`, here and for the planes:
+// what is judged differs, not how.
 #[tactic(auto, unfolding(alf_spec::specs::Faults::bit_depth_valid, alf_spec::specs::Faults::bank_valid))]
 pub fn filters_valid(filter: Filter, input: &FilterInput) -> bool
     requires { bit_depth_valid input.now.layout.picture ≡ true }

@@ -1,5 +1,5 @@
 -- A corner that breaks the rule decides for its row, and a row for the map. Assumes nothing.
-use Rattle.std.proofs.Common.{◌∙◌, refl, sym, arith}
+use Rattle.std.proofs.Common.{◌-◌, ◌∙◌, refl, sym, arith}
 use Rattle.alf_spec.specs.Faults.{corners_in_row}
 use Rattle.alf_spec.proofs.Scans.{scan_none, scan_more, scan_fails, scan_done}
 use Rattle.alf_validate_layout.proofs.corners.corners_valid.Goals as goal
@@ -13,14 +13,14 @@ loop-x-init g c = record { good = c.corners.invariant.good; corners = scan_none 
 pub loop-x-preserved : goal.loop-x-preserved
 loop-x-preserved g c = record {
   good = c.if-not-good.false;
-  corners = scan_more c.loop-x.invariant.corners c.loop-x-test.true (sym c.corner_at-good.ensures ∙ c.if-not-good.false);
+  corners = scan_more c.loop-x.invariant.corners (omega arith) (sym c.corner_at-good.ensures ∙ c.if-not-good.false);
 }
 
 pub corners-preserved : goal.corners-preserved
 unfolding corners_in_row
 corners-preserved g c = record {
   good = c.loop-x.invariant.good;
-  rows = scan_more c.corners.invariant.rows c.corners-test.true
+  rows = scan_more c.corners.invariant.rows (omega arith)
       (rw (← c.row_start-from.ensures.0) (sym (scan_done c.loop-x.invariant.corners (omega arith))));
 }
 
@@ -31,6 +31,6 @@ pub returns-then-not-good : goal.returns-then-not-good
 unfolding corners_in_row
 returns-then-not-good g c =
     c.if-not-good.true
-    ∙ scan_fails _ _ c.corners.y c.corners-test.true
+    ∙ scan_fails (c.args.rows - 1) _ c.corners.y (omega arith)
     (rw (← c.row_start-from.ensures.0)
-    (sym (scan_fails _ _ c.loop-x.x c.loop-x-test.true (sym c.corner_at-good.ensures ∙ c.if-not-good.true))))
+    (sym (scan_fails (c.args.columns - 1) _ c.loop-x.x (omega arith) (sym c.corner_at-good.ensures ∙ c.if-not-good.true))))
