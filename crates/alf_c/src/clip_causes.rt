@@ -21,17 +21,16 @@ fn without_room(number: u8) -> u8
     }
 }
 
-// Writes the causes by number, top, bottom, left and right, to a list that has room for these four.
-fn write_causes(named: SideCauses, causes: &mut [u8])
-    requires { length causes.old ≡ 4 }
-    ensures { causes.new ≡ cause_numbers named }
+// The causes by number: top, bottom, left and right.
+fn cause_numbers(named: SideCauses) -> [u8; 4]
+    ensures { result ≡ cause_numbers named }
 {
-    causes.copy_from_slice(&[
+    [
         cause_number(named.top),
         cause_number(named.bottom),
         cause_number(named.left),
         cause_number(named.right),
-    ]);
+    ]
 }
 
 // The number of the lowest fault, and `causes` stays as it was; or 0, and it has the causes on the four sides of the luma sample at column
@@ -88,7 +87,7 @@ pub extern "C" fn alf_clip_causes(
     }
     match answer {
         Ok(named) => {
-            write_causes(named, causes);
+            causes.copy_from_slice(&cause_numbers(named));
             0
         }
         Err(fault) => fault_number(fault),
