@@ -1,5 +1,6 @@
--- The operations' answers, and what stands for them: the number of paper 01's table, and the causes by number. Assumes nothing.
-use Rattle.std.specs.Prelude.{List, [], ◌∷◌, ℕ, zero, suc, Result, Ok, Err}
+-- The operations' answers, and what stands for them: the number of paper 01's table, and the causes by number and by name. Assumes
+-- nothing.
+use Rattle.std.specs.Prelude.{List, [], ◌∷◌, ℕ, zero, suc, Result, Ok, Err, codes}
 use Rattle.std.proofs.Math.Option.{Option, some, none}
 use Rattle.alf_spec.specs.declared.Fault.{Fault}
 use Rattle.alf_spec.specs.declared.Fault.TheVariants.{PictureSize, CtbSize, BitDepth, ChromaFormat, Length, VirtualBoundary, Tile}
@@ -48,6 +49,15 @@ cause_number cause.VirtualBoundary = 2
 cause_number cause.Tile = 3
 cause_number cause.Slice = 4
 cause_number cause.Subpicture = 5
+
+-- 02, card 1: the same by their names, as bytes
+abbrev pub cause_name : ClipCause → List ℕ
+cause_name cause.Open = codes "open"
+cause_name cause.LineBufferBoundary = codes "line-buffer boundary"
+cause_name cause.VirtualBoundary = codes "virtual boundary"
+cause_name cause.Tile = codes "tile"
+cause_name cause.Slice = codes "slice"
+cause_name cause.Subpicture = codes "subpicture"
 
 -- top, bottom, left, right
 abbrev pub cause_numbers : SideCauses → List ℕ

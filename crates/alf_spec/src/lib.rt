@@ -78,6 +78,11 @@ pub enum ClipCause {
 }
 
 impl fmt::Display for ClipCause {
+    ghost use Rattle.std.specs.Prelude.{Some};
+    ghost use Rattle.alf_spec.specs.Answers.{cause_name};
+
+    ghost output = { λ c. Some (cause_name c) };
+
     fn fmt<W: fmt::Write>(&self, f: &mut fmt::Formatter<W>) -> fmt::Result {
         f.write_str(match self {
             ClipCause::Open => "open",
