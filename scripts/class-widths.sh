@@ -20,9 +20,17 @@ type='[A-Z][a-z]+'
 entry='[a-z]+_entry'
 beyond=$(grep '::' <<< "$code" |
     grep -vE "^use (alf_spec::($type|\{$type(, $type)*\})|crate::(products::product_less|tables::($entry|\{$entry(, $entry)*\})));$")
+called=$(grep -v "derive" <<< "$code" | grep -oE "\b[a-z][a-z_0-9]*\(" | tr -d "(" | sort -u)
+defined=$(grep -oE '\bfn [a-z][a-z_0-9]*' <<< "$code" | sed 's/^fn //')
+elsewhere=$(grep -vxE "$entry" <<< "$called" | grep -vxF "$defined")
+methods=$(grep -nE '\.[a-z_0-9]+\(|[a-z]!' <<< "$code")
+derived=$(grep -n 'derive' <<< "$code" | grep -vF '#[derive(Clone, Copy)]')
 wide=$(grep -nE '\b([ui](64|128|size)|f(32|64))\b' <<< "$code")
 factors=$(grep -n '\*' <<< "$code" | grep -vF '(a as u32) * (b as u32)')
 [[ -z $beyond ]] || wrong "it calls code outside $files:" "$beyond"
+[[ -z $elsewhere ]] || wrong "it calls a function that does not stand in $files:" "$elsewhere"
+[[ -z $methods ]] || wrong "it calls a method or a macro:" "$methods"
+[[ -z $derived ]] || wrong "what is derived is code that does not stand in $files:" "$derived"
 [[ -z $wide ]] || wrong "a number wider than 32 bits:" "$wide"
 [[ -z $factors ]] || wrong "a multiplication that does not go through \`times\`:" "$factors"
 grep -qF 'fn times(a: u16, b: u16) -> u32' <<< "$code" || wrong "\`times\` does not take two u16" "$(grep -n 'fn times' <<< "$code")"

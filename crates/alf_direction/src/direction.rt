@@ -1,6 +1,6 @@
 // The class and the transpose of a block, from the sums over its window. What decides a class has no number wider than 32 bits, and
 // multiplies nowhere but in `products`, 16 bits by 16: other multiples are sums and shifts (02, card 3).
-ghost use Rattle.std.specs.Prelude.{◌≡◌, ◌+◌, ◌*◌, ◌/◌, ◌^◌, ◌≤◌, ◌<◌, get_or};
+ghost use Rattle.std.specs.Prelude.{◌≡◌, ◌+◌, ◌*◌, ◌/◌, ◌^◌, ◌≤◌, ◌<◌, min, get_or};
 ghost use Rattle.alf_spec.specs.Classes.{larger as larger_of, diagonal, strength as strength_of, activity as activity_of, transpose_table};
 ghost use Rattle.alf_spec.specs.Classes.{transpose_idx, filt_idx, class_of_sums};
 
@@ -61,12 +61,19 @@ fn multiple(n: u32, factor: u32) -> u32
     }
 }
 
+// Clip3( 0, 15, n ). It stands here, as all else does that decides a class: the tests read this code to its end.
+fn up_to_15(n: u32) -> u32
+    ensures { result ≡ min 15 n }
+{
+    if n < 15 { n } else { 15 }
+}
+
 // (1499)
 pub fn activity(total: u32, factor: u32, depth: u32) -> u32
     requires { (total < 2 ^ 19) × (factor ≤ 3) × (8 ≤ depth) × (depth ≤ 12) }
     ensures { result ≡ activity_of depth factor total }
 {
-    activity_entry((multiple(total, factor) >> (depth - 1)).min(15)) as u32
+    activity_entry(up_to_15(multiple(total, factor) >> (depth - 1))) as u32
 }
 
 // The transpose, from the directions of the main gradient and the other.

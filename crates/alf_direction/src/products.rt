@@ -2,9 +2,8 @@
 // card 3). No number here is wider than 32 bits, and the types show that no factor is wider than 16.
 ghost use Rattle.std.specs.Prelude.{◌≡◌, ◌+◌, ◌*◌, ◌/◌, ◌%◌, ◌^◌, ◌≤◌, ltb};
 
-// A product of two 32-bit numbers, as two words: high * 2^32 + low. Products are in the order of their high words, and of their low ones
-// where those are equal.
-#[derive(Clone, Copy, PartialEq, PartialOrd)]
+// A product of two 32-bit numbers, as two words: high * 2^32 + low.
+#[derive(Clone, Copy)]
 struct Product {
     high: u32,
     low: u32,
@@ -48,6 +47,14 @@ fn multiply(a: u32, b: u32) -> Product
     }
 }
 
+// Whether one product is less than another: by their high words, and by their low ones where those are equal. It is no derived order, since
+// all that decides a class is to be read here.
+fn words_less(left: Product, right: Product) -> bool
+    ensures { result ≡ ltb (left.high * 2 ^ 32 + left.low) (right.high * 2 ^ 32 + right.low) }
+{
+    (left.high < right.high) | ((left.high == right.high) & (left.low < right.low))
+}
+
 // Whether a * b < c * d, for any four numbers. Where all have 16 bits, as the sums of every picture of up to 10 bits do, a product is one
 // multiplication.
 pub fn product_less(a: u32, b: u32, c: u32, d: u32) -> bool
@@ -56,6 +63,6 @@ pub fn product_less(a: u32, b: u32, c: u32, d: u32) -> bool
     if ((a < 0x1_0000) & (b < 0x1_0000)) & ((c < 0x1_0000) & (d < 0x1_0000)) {
         times(a as u16, b as u16) < times(c as u16, d as u16)
     } else {
-        multiply(a, b) < multiply(c, d)
+        words_less(multiply(a, b), multiply(c, d))
     }
 }
