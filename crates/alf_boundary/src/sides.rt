@@ -1,7 +1,7 @@
 // The sides of a CTB, by why filtering across them is disabled, and its corners across which it is.
-ghost use Rattle.std.specs.Prelude.{◌≡◌, ◌+◌, ◌*◌, ◌<◌, length};
+ghost use Rattle.std.specs.Prelude.{◌≡◌, List, ℕ, ◌+◌, ◌*◌, ◌<◌, length};
 ghost use Rattle.alf_math.specs.Grids.{GridOf};
-ghost use Rattle.alf_boundary.specs.Tables.{MembershipTables, SidesOf};
+ghost use Rattle.alf_boundary.specs.Tables.{MembershipTables, SidesOf, with_virtual};
 ghost use Rattle.alf_boundary.specs.Memberships.{InTables};
 ghost use Rattle.alf_boundary.specs.SideCauses.{slice_step_disabled, cause_into, origin_at, axis_causes, corner_toward};
 
@@ -89,11 +89,11 @@ fn corner_disabled(layout: &Layout, origin: Origin, n: Ctb) -> bool
     slice_step_disabled(origin, layout.slice_map[at])
 }
 
-// The sides of a CTB, by why filtering across them is disabled, and its corners across which it is.
+// The sides of a CTB, by why filtering across them is disabled, and its corners across which it is, whatever the virtual boundaries are.
 pub fn sides_of(layout: &Layout, grid: Grid, ctb: Ctb) -> Sides
     requires { (GridOf layout.now.picture grid) × (MembershipTables grid layout.now)
         × (ctb.column < grid.columns) × (ctb.row < grid.rows) }
-    ensures { SidesOf layout.now ctb result }
+    ensures { (columns rows : List ℕ) → SidesOf (with_virtual columns rows layout.now) ctb result }
 {
     let origin = origin_of(layout, grid.columns, ctb);
     let near = neighbours_of(grid, ctb);

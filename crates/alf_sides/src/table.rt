@@ -1,8 +1,8 @@
 // The table of the sides of all CTBs. An entry is a number and no Sides: whoever has a table has it on the stack, where it takes 32 KB so,
 // and not 96.
-ghost use Rattle.std.specs.Prelude.{◌≡◌, ◌*◌, ◌≤◌, ◌<◌, length, get_or};
+ghost use Rattle.std.specs.Prelude.{◌≡◌, List, ℕ, ◌*◌, ◌≤◌, ◌<◌, length, get_or};
 ghost use Rattle.alf_math.specs.Grids.{GridOf};
-ghost use Rattle.alf_boundary.specs.Tables.{MembershipTables};
+ghost use Rattle.alf_boundary.specs.Tables.{MembershipTables, with_virtual};
 ghost use Rattle.alf_sides.specs.Entries.{sides_in};
 ghost use Rattle.alf_sides.specs.Planned.{SidesPlanned};
 
@@ -13,11 +13,12 @@ use alf_spec::{Ctb, Grid, Layout, Sides};
 // There are at most 128 by 128 CTBs.
 pub const CTBS: usize = 16384;
 
-// Writes an entry for each CTB of the picture into the table.
+// Writes an entry for each CTB of the picture into the table, whatever the virtual boundaries are.
 pub fn plan_sides(layout: &Layout, grid: Grid, table: &mut [u16])
     requires { (GridOf layout.now.picture grid) × (grid.columns * grid.rows ≤ length table.old)
         × (MembershipTables grid layout.now) }
-    ensures { (length table.new ≡ length table.old) × (SidesPlanned layout.now table.new) }
+    ensures { (length table.new ≡ length table.old)
+        × ((columns rows : List ℕ) → SidesPlanned (with_virtual columns rows layout.now) table.new) }
 {
     for k in 0..grid.columns * grid.rows {
         let ctb = Ctb {

@@ -1,5 +1,6 @@
 -- The CTBs next to a CTB have their entries in the tables, and what those say is what the definitions say. Assumes nothing.
 use Rattle.alf_spec.specs.Geometry.{before, after}
+use Rattle.alf_boundary.specs.Tables.{with_virtual}
 use Rattle.alf_boundary.proofs.CtbSides.{sides_are}
 use Rattle.alf_boundary.proofs.Tables.{in_tables, beside_reached, stacked_reached, diagonal_reached}
 use Rattle.alf_boundary.proofs.sides.sides_of.Goals as goal
@@ -26,7 +27,7 @@ corner_disabled-requires-2 c =
     rw (c.neighbours_of-near.ensures, c.origin_of-origin.ensures) (diagonal_reached c.requires.1 _ c.requires.2 c.requires.3 after).slice
 
 pub returns : goal.returns
-returns c =
+returns c columns rows =
     rw (
       c.axis_causes-across.ensures,
       c.axis_causes-down.ensures,
@@ -34,4 +35,4 @@ returns c =
       c.corner_disabled-2.ensures,
       c.neighbours_of-near.ensures,
       c.origin_of-origin.ensures,
-    ) (sides_are c.args.layout.now c.args.grid c.requires.0 c.args.ctb)
+    ) (sides_are (with_virtual columns rows c.args.layout.now) c.args.grid c.requires.0 c.args.ctb)

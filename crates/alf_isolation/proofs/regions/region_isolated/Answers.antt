@@ -26,7 +26,7 @@ pub returns-then-not-ctb_passes : goal.returns-then-not-ctb_passes
 returns-then-not-ctb_passes c =
     let g = c.grid_of-grid.ensures in
     let below = c.loop-k-test.true in
-    let sides = planned_sides c.args.layout.now g _ c.plan_sides.ensures.1 _ below c.sides_at-sides.ensures in
+    let sides = planned_sides c.args.layout.now g _ (c.plan_sides.ensures.1 _ _) _ below c.sides_at-sides.ensures in
     let answer = address_passes_lem c.args.layout.now _ c.requires _ g _ below sides c.ctb_passes.ensures in
     isolated_test _ _ c.requires _ g (scan_fails _ _ _ below (sym answer ∙ c.if-not-ctb_passes.true))
 
@@ -34,7 +34,7 @@ pub loop-k-preserved : goal.loop-k-preserved
 loop-k-preserved c =
     let g = c.grid_of-grid.ensures in
     let below = c.loop-k-test.true in
-    let sides = planned_sides c.args.layout.now g _ c.plan_sides.ensures.1 _ below c.sides_at-sides.ensures in
+    let sides = planned_sides c.args.layout.now g _ (c.plan_sides.ensures.1 _ _) _ below c.sides_at-sides.ensures in
     let answer = address_passes_lem c.args.layout.now _ c.requires _ g _ below sides c.ctb_passes.ensures in
     scan_more c.loop-k.invariant below (sym answer ∙ c.if-not-ctb_passes.false)
 

@@ -66,7 +66,7 @@ returns c =
     let picture = ap (λ (l : Layout). l.picture) c.layout.view_is in
     let across = ap (λ (l : Layout). l.virtual_columns) c.layout.view_is in
     let down = ap (λ (l : Layout). l.virtual_rows) c.layout.view_is in
-    causes_are c.args.layout.now ok.0 (own_grid at.After-grid-grid) c.args.x c.args.y ok.1 ok.2 c.sides_of-sides.ensures
+    causes_are c.args.layout.now ok.0 (own_grid at.After-grid-grid) c.args.x c.args.y ok.1 ok.2 (c.sides_of-sides.ensures _ _)
     (rw (c.row_axis-rows.ensures, picture, down) at c.cause_at.ensures)
     (rw (c.row_axis-rows.ensures, picture, down) at c.cause_at-2.ensures)
     (rw (c.column_axis-columns.ensures, picture, across) at c.cause_at-3.ensures)
