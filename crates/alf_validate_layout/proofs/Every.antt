@@ -1,50 +1,43 @@
--- What a chain that tests every entry, every place, or every two neighbours of a list comes to, in the words of `alf_spec`. Assumes
--- nothing.
-use Rattle.std.proofs.Common.{◌≡◌, refl, sym, ◌∙◌, ap, ℕ, zero, suc, ◌+◌, ◌-◌, ◌<◌, ◌≤◌, Bool, true, false, ◌&&◌, List, [], ◌∷◌, length}
-use Rattle.std.proofs.Common.{get_or, take, drop, fold, arith, add-one, add-zero, sub-one}
-use Rattle.std.specs.List.{list_all, range_with_len}
+-- What a loop or chain that tests every entry, or every two neighbours of a list, comes to, in the words of `alf_spec`. Assumes nothing.
+use Rattle.std.proofs.Common.{◌≡◌, refl, sym, ◌∙◌, ap, ℕ, zero, suc, ◌+◌, ◌-◌, ◌<◌, ◌≤◌, Bool, true, ◌&&◌, List, [], ◌∷◌, length}
+use Rattle.std.proofs.Common.{get_or, take, drop, fold, arith, add-one, sub-one, take_all}
+use Rattle.std.specs.List.{list_all}
 use Rattle.std.proofs.Math.Bool.{and-true, and_assoc}
 use Rattle.std.specs.Slice.Iter.{windows_rest, windows_size}
+use Rattle.std.proofs.lemmas.List.Sums.{fold_more}
 use Rattle.std.proofs.lemmas.Iterator.{YieldsList}
 use Rattle.std.proofs.lemmas.Iterator.Splits.{YieldsList-from_shown_while}
 use Rattle.std.specs.Prelude.{Option, MatchOption}
 use Rattle.std.specs.declared.slice.Windows.{Windows}
 use denote.Ref.{Bor}
 use Rattle.alf_spec.specs.Lists.{all_below, every_from, every}
-use Rattle.alf_spec.proofs.Tests.{all_same}
+use Rattle.alf_spec.proofs.Scans.{every-place, Sofar, sofar_none, sofar_more, sofar_done}
 
 -- ---- every entry
 
 module _ {A : Type 0} (test : A → Bool) where
-  fold_from : (k : ℕ) (good : Bool) (xs : List A) → fold (λ b x. b && test x) good xs ≡ (good && every_from k (λ _ x. test x) xs)
-  unfolding every_from
-  fold_from k true [] = refl
-  fold_from k false [] = refl
-  fold_from k true (x ∷ xs) = fold_from (suc k) (test x) xs
-  fold_from k false (x ∷ xs) = fold_from (suc k) false xs
+  -- i entries in, a loop that goes on past an entry that fails has tested i places
+  sofar-from_fold : (d : A) (xs : List A) (i : ℕ) → i ≤ length xs
+      → Sofar (length xs) (λ k. test (get_or xs k d)) i (fold (λ b x. b && test x) true (take i xs))
+  sofar-from_fold d xs zero h = sofar_none _ _
+  sofar-from_fold d xs (suc i) h =
+      rw (← add-one, fold_more (λ b x. b && test x) true xs i d) (sofar_more (sofar-from_fold d xs i (omega arith)) (omega arith) refl)
 
-  -- a loop that goes on past an entry that fails
+  -- so it has tested every entry; where there is one, it stands for what is read past the end
   pub every-from_fold : (xs : List A) → fold (λ b x. b && test x) true xs ≡ every test xs
-  every-from_fold xs = fold_from 0 true xs
+  unfolding every_from
+  every-from_fold [] = refl
+  every-from_fold (x ∷ xs) =
+      let n = length (x ∷ xs) in
+      rw (take_all n (x ∷ xs) (omega arith)) at (sofar_done (sofar-from_fold x (x ∷ xs) n (omega arith)) (omega arith))
+      ∙ sym (every-place x (λ _ y. test y) (x ∷ xs))
 
--- ---- every place
+-- ---- every two neighbours
 
 first_below : (n : ℕ) (test : ℕ → Bool) → all_below (suc n) test ≡ (test 0 && all_below n (λ k. test (suc k)))
 unfolding all_below
 first_below zero test = sym (and-true (test 0))
 first_below (suc n) test = rw (first_below n test) (and_assoc (test 0) (all_below n (λ k. test (suc k))) (test (suc n)))
-
-below_from : (test : ℕ → Bool) (a n : ℕ) → list_all test (range_with_len a n) ≡ all_below n (λ k. test (a + k))
-unfolding all_below
-below_from test a zero = refl
-below_from test a (suc n) =
-    rw (first_below n (λ k. test (a + k)), add-zero, below_from test (a + 1) n)
-    (ap (λ b. test a && b) (all_same n (λ k h. ap test (omega arith))))
-
-pub below-from_all : (test : ℕ → Bool) (n : ℕ) → list_all test (range_with_len 0 n) ≡ all_below n test
-below-from_all test n = below_from test 0 n ∙ all_same n (λ k h. ap test (omega arith))
-
--- ---- every two neighbours
 
 abbrev pairs_from : ℕ → List ℕ → List (List ℕ)
 pairs_from x [] = []
