@@ -78,13 +78,13 @@ fn ctb_params_valid_at(input: &FilterInput, k: usize) -> bool
     }
 }
 
-// Whether the parameters of so many CTBs, by address from 0, are valid.
+// Whether the parameters of so many CTBs, by address from 0, are valid. The fold goes on past a CTB whose are not.
 fn ctb_params_valid(input: &FilterInput, count: usize) -> bool
     requires fit { ParametersFit input.now }
     requires in_map { count ≤ length input.now.layout.slice_map }
     ensures { result ≡ all_below count (ctb_params_valid_at input.now) }
 {
-    (0..count).all(|k| ctb_params_valid_at(input, k))
+    (0..count).fold(true, |good, k| good & ctb_params_valid_at(input, k))
 }
 
 // Whether all slice parameters and CTB parameters are valid.
