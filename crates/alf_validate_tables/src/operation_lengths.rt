@@ -1,6 +1,7 @@
 // Cause 5, the operations' part: the lengths of what an operation is given beside the layout, and of its output. The slice map has an entry
 // for each CTB where the layout's own lengths are right, so that its length stands for the number of CTBs.
 ghost use Rattle.std.specs.Prelude.{◌≡◌, ◌*◌, ◌/◌, ◌<◌, eqb, length};
+ghost use Rattle.alf_spec.specs.Input.{Layout as LayoutValue};
 ghost use Rattle.alf_spec.specs.Geometry.{total_ctbs, chroma_plane, plane_length};
 ghost use Rattle.alf_spec.specs.Faults.{filter_lengths_valid};
 
@@ -16,10 +17,11 @@ pub fn plane_fits(picture: Picture, columns: u32, rows: u32, length: usize) -> b
     length as u64 == ((picture.width / columns) as u64) * ((picture.height / rows) as u64)
 }
 
-// Whether a chroma plane has this length.
+// Whether a chroma plane has this length: of this layout, and of every other with its picture.
 #[tactic(auto, unfolding(alf_spec::specs::Geometry::plane_of))]
 pub fn chroma_fits(layout: &Layout, length: usize) -> bool
-    ensures { result ≡ eqb length (plane_length (chroma_plane layout.now)) }
+    ensures own { result ≡ eqb length (plane_length (chroma_plane layout.now)) }
+    ensures part { (l : LayoutValue) → l.picture ≡ layout.now.picture → result ≡ eqb length (plane_length (chroma_plane l)) }
 {
     let across = sub_width(layout.picture);
     let down = sub_height(layout.picture);

@@ -1,9 +1,10 @@
 // Causes 12 and 13: samples, and the addresses of the CTB list.
-ghost use Rattle.std.specs.Prelude.{◌≡◌, true, ◌&&◌, ltb};
+ghost use Rattle.std.specs.Prelude.{◌≡◌, true, ◌&&◌, ltb, []};
 ghost use Rattle.alf_spec.specs.Lists.{implies, every};
-ghost use Rattle.alf_spec.specs.Input.{given};
+ghost use Rattle.alf_spec.specs.Input.{Layout as LayoutValue, given, input_of};
 ghost use Rattle.alf_spec.specs.Filters.{operation_of};
-ghost use Rattle.alf_spec.specs.Faults.{bit_depth_valid, samples_valid};
+ghost use Rattle.alf_spec.specs.Geometry.{total_ctbs};
+ghost use Rattle.alf_spec.specs.Faults.{bit_depth_valid, samples_valid, addresses_valid};
 
 use crate::entries::samples_below;
 use alf_spec::{Filter, FilterInput, Picture};
@@ -34,9 +35,11 @@ pub fn planes_valid(filter: Filter, input: &FilterInput) -> bool
     }
 }
 
-// Whether each address of the list is below the number of CTBs.
+// Whether each address of the list is below the number of CTBs, which is cause 13 of every layout with so many.
 pub fn addresses_valid(ctb_total: usize, ctb_list: &[u32]) -> bool
-    ensures { result ≡ every (λ n. ltb n ctb_total) ctb_list.now }
+    ensures own { result ≡ every (λ n. ltb n ctb_total) ctb_list.now }
+    ensures part { (l : LayoutValue) → total_ctbs l ≡ ctb_total
+        → result ≡ addresses_valid (input_of l [] [] [] [] [] ctb_list.now [] [] 0) }
 {
     every(ctb_list, |address| (*address as usize) < ctb_total)
 }
