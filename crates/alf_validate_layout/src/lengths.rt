@@ -1,5 +1,6 @@
 // Cause 5: the slice count, and the lengths of the layout's tables.
 ghost use Rattle.std.specs.Prelude.{◌≡◌};
+ghost use Rattle.alf_spec.specs.Input.{Layout as LayoutValue};
 ghost use Rattle.alf_spec.specs.Faults.{layout_lengths_valid};
 ghost use Rattle.alf_math.specs.Grids.{GridOf};
 
@@ -9,7 +10,10 @@ use alf_spec::{Grid, Layout};
 // switches.
 pub fn layout_lengths_valid(layout: &Layout, grid: Grid) -> bool
     requires { GridOf layout.now.picture grid }
-    ensures { result ≡ layout_lengths_valid layout.now }
+    ensures own { result ≡ layout_lengths_valid layout.now }
+    ensures part { (l : LayoutValue) → l.picture ≡ layout.now.picture → l.tile_columns ≡ layout.now.tile_columns
+        → l.tile_rows ≡ layout.now.tile_rows → l.slice_map ≡ layout.now.slice_map → l.subpic_map ≡ layout.now.subpic_map
+        → l.subpic_across ≡ layout.now.subpic_across → result ≡ layout_lengths_valid l }
 {
     let columns = grid.columns as usize;
     let rows = grid.rows as usize;

@@ -1,6 +1,7 @@
 // Cause 7: tile numbers.
 ghost use Rattle.std.specs.Prelude.{◌≡◌, ◌||◌, ◌+◌, ◌-◌, length, get_or, eqb};
 ghost use Rattle.alf_spec.specs.Lists.{all_below};
+ghost use Rattle.alf_spec.specs.Input.{Layout as LayoutValue};
 ghost use Rattle.alf_spec.specs.Faults.{follows_at, tile_list_valid, tiles_valid};
 
 use alf_spec::Layout;
@@ -40,7 +41,9 @@ fn tile_list_valid(list: &[u8]) -> bool
 // Cause 7: the tile columns of the CTB columns and the tile rows of the CTB rows.
 #[tactic(auto, unfolding(alf_spec::specs::Faults::tiles_valid))]
 pub fn tiles_valid(layout: &Layout) -> bool
-    ensures { result ≡ tiles_valid layout.now }
+    ensures own { result ≡ tiles_valid layout.now }
+    ensures part { (l : LayoutValue) → l.tile_columns ≡ layout.now.tile_columns → l.tile_rows ≡ layout.now.tile_rows
+        → result ≡ tiles_valid l }
 {
     tile_list_valid(layout.tile_columns) & tile_list_valid(layout.tile_rows)
 }

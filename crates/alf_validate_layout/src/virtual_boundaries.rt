@@ -1,6 +1,7 @@
 // Cause 6: virtual boundaries.
 ghost use Rattle.std.specs.Prelude.{◌≡◌, ◌+◌, ◌-◌, length, leb};
 ghost use Rattle.alf_spec.specs.Lists.{all_below, every};
+ghost use Rattle.alf_spec.specs.Input.{Layout as LayoutValue};
 ghost use Rattle.alf_spec.specs.Faults.{virtual_position_valid, apart_at, virtual_list_valid, virtual_boundaries_valid};
 ghost use Rattle.alf_math.specs.Grids.{GridOf};
 
@@ -47,7 +48,9 @@ fn virtual_list_valid(size: u32, ctb: u32, list: &[u16]) -> bool
 #[tactic(auto, unfolding(alf_spec::specs::Faults::virtual_boundaries_valid))]
 pub fn virtual_boundaries_valid(layout: &Layout, grid: Grid) -> bool
     requires { GridOf layout.now.picture grid }
-    ensures { result ≡ virtual_boundaries_valid layout.now }
+    ensures own { result ≡ virtual_boundaries_valid layout.now }
+    ensures part { (l : LayoutValue) → l.picture ≡ layout.now.picture → l.virtual_columns ≡ layout.now.virtual_columns
+        → l.virtual_rows ≡ layout.now.virtual_rows → result ≡ virtual_boundaries_valid l }
 {
     virtual_list_valid(layout.picture.width, grid.ctb, layout.virtual_columns)
         & virtual_list_valid(layout.picture.height, grid.ctb, layout.virtual_rows)

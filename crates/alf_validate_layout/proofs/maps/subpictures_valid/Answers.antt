@@ -1,9 +1,14 @@
--- The grid's numbers are the layout's. Assumes nothing.
+-- The grid's numbers are those of each layout of this picture. Assumes nothing.
+use Rattle.std.proofs.Common.{refl}
 use Rattle.alf_validate_layout.proofs.Layouts.{subpictures_by_grid}
 use Rattle.alf_validate_layout.proofs.maps.subpictures_valid.Goals as goal
 
-pub returns : goal.returns
-returns c =
-    rw (← c.layout.view_is)
-    (subpictures_by_grid _ c.args.grid (rw (← c.layout.view_is) at c.requires.0) c.bytes_below.ensures c.bytes_below-2.ensures
-    c.corners_valid.ensures)
+pub returns-clause-part : goal.returns-clause-part
+returns-clause-part c l e u v =
+    let map = rw (← c.layout.view_is) at u in
+    let across = rw (← c.layout.view_is) at v in
+    subpictures_by_grid l c.args.grid (rw e c.requires.0) (rw (← map) at c.bytes_below.ensures)
+    (rw (← across) at c.bytes_below-2.ensures) (rw (← map) at c.corners_valid.ensures)
+
+pub returns-clause-own : goal.returns-clause-own
+returns-clause-own c = returns-clause-part c _ refl refl refl
