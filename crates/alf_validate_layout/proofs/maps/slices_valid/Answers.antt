@@ -7,7 +7,8 @@ pub returns-clause-part : goal.returns-clause-part
 returns-clause-part c l e u =
     let picture = rw (← c.layout.view_is) at e in
     let map = rw (← c.layout.view_is) at u in
-    slices_by_grid l c.args.grid (rw e c.requires.0) (rw (← picture, ← map) at c.bytes_below.ensures) (rw (← map) at c.corners_valid.ensures)
+    slices_by_grid l c.args.grid (rw e c.requires.0) (rw (← picture, ← map) at c.bytes_below.ensures)
+    (rw (← map) at c.corners_valid.ensures)
 
 pub returns-clause-own : goal.returns-clause-own
 returns-clause-own c = returns-clause-part c _ refl refl
