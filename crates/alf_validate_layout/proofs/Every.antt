@@ -23,7 +23,7 @@ module _ {A : Type 0} (test : A → Bool) where
   sofar-from_fold d xs (suc i) h =
       rw (← add-one, fold_more (λ b x. b && test x) true xs i d) (sofar_more (sofar-from_fold d xs i (omega arith)) (omega arith) refl)
 
-  -- so it has tested every entry; where there is one, it stands for what is read past the end
+  -- so it has tested every entry: where there are some, the first stands for what is read past the end
   pub every-from_fold : (xs : List A) → fold (λ b x. b && test x) true xs ≡ every test xs
   unfolding every_from
   every-from_fold [] = refl
