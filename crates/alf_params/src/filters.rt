@@ -1,5 +1,5 @@
 // The numbers of the filter of the CTB at address k, taken from the tables.
-ghost use Rattle.std.specs.Prelude.{◌≡◌, ◌+◌, ◌*◌, ◌^◌, ◌≤◌, ◌<◌, pos, length};
+ghost use Rattle.std.specs.Prelude.{◌≡◌, ◌+◌, ◌*◌, ◌^◌, ◌≤◌, ◌<◌, pos, length, get_or};
 ghost use Rattle.alf_lists.specs.Regions.{between};
 ghost use Rattle.alf_lists.specs.Filled.{Filled};
 ghost use Rattle.alf_params.specs.Tables.{ctb_number, SliceTables, FixedTables};
@@ -22,13 +22,23 @@ pub const FIXED_SETS: usize = 16;
 
 const CLASSES: usize = 25;
 
-// n numbers of a table from index `from` on, put to the indices from `to` on.
+// Number k of a table.
+fn number_at(table: &[i16], k: usize) -> i16
+    requires { k < length table.now }
+    ensures { result ≡ get_or table.now k (pos 0) }
+{
+    table[k]
+}
+
+// n numbers of a table from index `from` on, put to the indices from `to` on. One by one, as `copy_run` does it.
 fn copy_numbers(table: &[i16], from: usize, n: usize, filters: &mut [i16], to: usize)
     requires { (from + n ≤ length table.now) × (to + n ≤ length filters.old) }
     ensures { Filled (pos 0) filters.old (between to n) (copied_from table.now from to)
         filters.new }
 {
-    filters[to..to + n].copy_from_slice(&table[from..from + n]);
+    for j in 0..n {
+        filters[to + j] = number_at(table, from + j);
+    }
 }
 
 // 1 << BitDepth: the clip of the fixed filters, (1456).

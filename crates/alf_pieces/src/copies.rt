@@ -65,12 +65,15 @@ pub fn plane_index(width: u32, y: u32, x: u32) -> usize
     y as usize * width as usize + x as usize
 }
 
-// n samples from `from` on, to `at`.
+// n samples from `from` on, to `at`. One by one: std's `copy_from_slice` is made of `memmove`, which a program in C would have to bring
+// along.
 pub fn copy_run(plane: &[u16], from: usize, n: usize, copy: &mut [u16], at: usize)
     requires { (from + n ≤ length plane.now) × (at + n ≤ length copy.old) }
     ensures { copy.new ≡ painted copy.old (between at n) (run_at plane.now from at) }
 {
-    copy[at..at + n].copy_from_slice(&plane[from..from + n]);
+    for i in 0..n {
+        copy[at + i] = plane[from + i];
+    }
 }
 
 // What a row of the copy holds: the plane's row that begins at index `row`, from 3 columns before column `start` on, where columns are held

@@ -1,19 +1,27 @@
--- The part that std copies has n places.
-use Rattle.std.proofs.Common.{◌≡◌, ◌+◌, ◌-◌, ◌<◌, ℕ, pos, length, take, drop, get_or, ap, ◌∙◌, arith, rules}
-use lib.Seq.{get_or-take, get_or-drop}
-use Rattle.alf_lists.proofs.Parts.{part_fills}
+-- A turn copies one number more.
+use Rattle.std.proofs.Common.{◌≡◌, ◌+◌, ◌-◌, ◌∙◌, ℕ, pos, get_or, ap, arith}
+use mir.Syntax.{w16}
+use Rattle.alf_math.proofs.Magnitude.{returned}
+use Rattle.alf_lists.proofs.Painted.{fill_none, fill_set}
+use Rattle.alf_lists.proofs.Regions.{run_none, run_more}
 use Rattle.alf_params.specs.Numbers.{copied_from}
 use Rattle.alf_params.proofs.filters.copy_numbers.Goals as goal
 
-pub returns : goal.returns
+pub loop-j-init : goal.loop-j-init
+loop-j-init c = fill_none (run_none _)
+
+pub loop-j-preserved : goal.loop-j-preserved
 unfolding copied_from
-returns c =
+loop-j-preserved c =
     let a = c.args in
-    let is = c.copy_from_slice.ensures.after in
-    let places : length (take (a.from + a.n - a.from) (drop a.from a.table.now)) ≡ a.n = search rules in
-    part_fills (pos 0) a.to a.n _ a.filters.now c.copy_from_slice.new.self (omega arith) (ap length is ∙ places)
-    (λ j h.
-    let inside : j < a.from + a.n - a.from = omega arith in
-    rw is (get_or-take (a.from + a.n - a.from) (drop a.from a.table.now) j (pos 0) inside ∙ get_or-drop a.from a.table.now j (pos 0)
-    ∙ ap (λ (k : ℕ). get_or a.table.now (a.from + k) (pos 0)) (omega arith)))
-    (omega arith)
+    let j = c.loop-j.j in
+    let own : a.from + j ≡ a.from + ((a.to + j) - a.to) = omega arith in
+    let number = c.number_at in
+    fill_set _ _ c.loop-j.invariant (omega arith)
+    (returned w16 number.type_inv number.ensures ∙ ap (λ (k : ℕ). get_or a.table.now k (pos 0)) own)
+    (λ k h. run_more _ _ k)
+
+pub returns : goal.returns
+returns c =
+    let all : c.loop-j.j ≡ c.args.n = omega arith in
+    rw all at c.loop-j.invariant
