@@ -1,5 +1,5 @@
 // Cause 11: coefficients, clips and the fixed map.
-ghost use Rattle.std.specs.Prelude.{◌≡◌, true, ◌&&◌, ◌≤◌};
+ghost use Rattle.std.specs.Prelude.{◌≡◌, true, ◌&&◌, ◌≤◌, ◌<◌, pos, length, get_or};
 ghost use Rattle.alf_spec.specs.Lists.{implies, every_from};
 ghost use Rattle.alf_spec.specs.Input.{given};
 ghost use Rattle.alf_spec.specs.Filters.{operation_of};
@@ -43,15 +43,25 @@ fn bank_number_valid(bit_depth: u8, k: usize, number: i16) -> bool
     }
 }
 
-// Whether each number of the whole bank is in its range, which its place decides too.
+// Number k of the bank.
+fn number_at(bank: &[i16], k: usize) -> i16
+    requires { k < length bank.now }
+    ensures { result ≡ get_or bank.now k (pos 0) }
+{
+    bank[k]
+}
+
+// Whether each number of the whole bank is in its range, which its place decides too. A `for` over the places and no `fold`: what a program
+// is built with makes vector code of this loop, and of a chain only in the static library.
 pub fn bank_valid(bit_depth: u8, bank: &[i16]) -> bool
     requires { bit_depth ≤ 12 }
     ensures { result ≡ every_from 0 (bank_number_valid bit_depth) bank.now }
 {
-    bank.iter().enumerate().fold(
-        true,
-        |good, (k, number)| good & bank_number_valid(bit_depth, k, *number),
-    )
+    let mut good = true;
+    for k in 0..bank.len() {
+        good = good & bank_number_valid(bit_depth, k, number_at(bank, k));
+    }
+    good
 }
 
 // Whether the fixed coefficients and the fixed map are in their ranges.

@@ -1,14 +1,22 @@
--- The fold tests every entry with its place. Assumes nothing.
-use Rattle.std.proofs.Common.{rules, tests, ◌&&◌, ◌∙◌}
-use Rattle.std.proofs.lemmas.Iterator.{YieldsList-from_slice}
-use Rattle.std.proofs.lemmas.Iterator.Consumers.{fold_from_yields_List, YieldsList-from_enumerate}
+-- The loop tests every number with its place. Assumes nothing.
+use Rattle.std.proofs.Common.{pos, sym, ap, ◌∙◌, arith}
+use mir.Syntax.{w16}
+use Rattle.alf_math.proofs.Magnitude.{returned}
 use Rattle.alf_spec.specs.Faults.{bank_number_valid}
-use Rattle.alf_validate_tables.proofs.Places.{every-from_places}
+use Rattle.alf_spec.proofs.Scans.{every-place, sofar_none, sofar_more, sofar_done}
 use Rattle.alf_validate_tables.proofs.filters.bank_valid.Goals as goal
+
+pub loop-k-init : goal.loop-k-init
+loop-k-init c = sofar_none _ _
+
+pub loop-k-preserved : goal.loop-k-preserved
+loop-k-preserved c =
+    let number = c.number_at in
+    sofar_more c.loop-k.invariant (omega arith)
+    (c.bank_number_valid-good.ensures
+    ∙ ap (bank_number_valid c.args.bit_depth c.loop-k.k) (returned w16 number.type_inv number.ensures))
 
 pub returns : goal.returns
 returns c =
-    fold_from_yields_List _ (λ b n. b && bank_number_valid c.args.bit_depth n.0 n.1) _ _ c.fold.ensures.ran
-    (YieldsList-from_enumerate (YieldsList-from_slice c.args.bank.now cc) cc)
-    (λ b n r q k. search (rules, tests))
-    ∙ every-from_places (bank_number_valid c.args.bit_depth) _
+    sofar_done c.loop-k.invariant (omega arith)
+    ∙ sym (every-place (pos 0) (bank_number_valid c.args.bit_depth) c.args.bank.now)
