@@ -4,3 +4,4 @@ pub mod AcceptedFilters
 pub mod CtbFilters
 pub mod FilteredCtbs
 pub mod SpreadZeros
+pub mod Copies

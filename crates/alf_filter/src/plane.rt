@@ -10,8 +10,17 @@ use crate::ctbs::filter_marked;
 use crate::listed_ctbs::mark_listed;
 use alf_luma::tap_orders;
 use alf_math::grid::grid;
+use alf_pieces::copies::copy_run;
 use alf_sides::{CTBS, plan_sides};
 use alf_spec::{Filter, FilterInput};
+
+// A plane over another of its size, by the run that is copied one by one.
+fn copy_plane(plane: &[u16], output: &mut [u16])
+    requires { length plane.now ≡ length output.old }
+    ensures { output.new ≡ plane.now }
+{
+    copy_run(plane, 0, plane.len(), output, 0);
+}
 
 // The plane that a filter filters: a match, since the kinds are three and the planes two.
 fn copy_input(filter: Filter, input: &FilterInput, output: &mut [u16])
@@ -19,9 +28,9 @@ fn copy_input(filter: Filter, input: &FilterInput, output: &mut [u16])
     ensures { output.new ≡ plane_filtered filter input.now.luma input.now.chroma }
 {
     match filter {
-        Filter::Luma => output.copy_from_slice(input.luma),
-        Filter::Chroma(_) => output.copy_from_slice(input.chroma),
-        Filter::CrossComponent(_) => output.copy_from_slice(input.chroma),
+        Filter::Luma => copy_plane(input.luma, output),
+        Filter::Chroma(_) => copy_plane(input.chroma, output),
+        Filter::CrossComponent(_) => copy_plane(input.chroma, output),
     }
 }
 

@@ -66,4 +66,5 @@ returns c =
     let i = with_output (length c.args.output.now) own in
     let layout : c.input.inside.layout ≡ own.layout = ap (λ (i : Input). i.layout) c.input.view_is in
     marked_result c.args.filter i c.requires (c.mark_listed.ensures.1 i refl) c.copy_input.ensures
-    (c.filter_marked.ensures i (record { accepted = c.requires; same = refl }) (rw layout at (c.plan_sides.ensures.1 _ _)))
+    (c.filter_marked.ensures i (record { accepted = c.requires; same = refl })
+    (rw layout at (c.plan_sides.ensures.1 own.layout.virtual_columns own.layout.virtual_rows)))
