@@ -7,4 +7,4 @@ mod rows;
 mod spread;
 
 pub use piece::filter_piece;
-pub use spread::tap_orders;
+pub use spread::{ORDERS, tap_orders};

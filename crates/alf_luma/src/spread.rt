@@ -14,7 +14,7 @@ use alf_taps::COLUMNS;
 const NUMBERS: usize = 24;
 
 // How many numbers the tap orders of the four transposes have.
-const ORDERS: usize = 96;
+pub const ORDERS: usize = 96;
 
 // Which of a filter's numbers is number j in the order of a transpose.
 #[tactic(auto, unfolding(crate::specs::SpreadFilters::tap_index))]
