@@ -1,7 +1,7 @@
 -- What each filter's function of a piece is given, and what it leaves, under the one name of the filters. Assumes nothing.
 use mathlib.Core.Path.{◌≡◌, refl, sym, ap, subst, ◌∙◌}
 use mathlib.Core.List.{List}
-use Prim.Native.Nat.{ℕ, ◌*◌, ◌/◌, ◌≤◌}
+use Prim.Native.Nat.{ℕ, ◌/◌}
 use native.Mathlib.Nat.{div-one}
 use native.Mathlib.Omega.{arith}
 use lib.IntN.{ℤ}
@@ -21,7 +21,6 @@ use Rattle.alf_spec.proofs.Ratios.{Ratio, whole, half, boundary, chroma_ratios}
 use Rattle.alf_pieces.specs.declared.pieces.Piece.{Piece}
 use Rattle.alf_lists.specs.Regions.{in_rect}
 use Rattle.alf_pieces.specs.Pieces.{scaled, PieceOf, PieceIn, BlockPiece, CtbOf}
-use Rattle.alf_pieces.specs.Copies.{area}
 use Rattle.alf_pieces.proofs.ScaledPieces.{scaled-piece}
 use Rattle.alf_params.specs.Filters.{LumaFilters, ChromaFilter}
 use Rattle.alf_luma.specs.Samples.{LumaPieceInput}
@@ -29,9 +28,20 @@ use Rattle.alf_chroma.specs.Pieces.{ChromaWork, unlined_plane}
 use Rattle.alf_cross.specs.Pieces.{CrossFilter, CrossWork}
 use Rattle.alf_spec.specs.declared.Filter.{Filter}
 use Rattle.alf_spec.specs.declared.Filter.TheVariants.{Luma, Chroma, CrossComponent}
-use Rattle.alf_ctb.specs.FilterWork.{PlanesGiven, FilterRooms, Numbers, PieceFiltered}
+use Rattle.alf_ctb.specs.FilterWork.{planes_of, PlanesGiven, FilterRooms, Numbers, PieceFiltered}
 
 -- ---- what they are given
+
+-- an input's picture and planes are given without its tables
+pub planes_given : {f : Filter} {i : Input} {g : Grid} {orders : List ℕ} → PlanesGiven f i g orders → PlanesGiven f (planes_of i) g orders
+planes_given h = record {
+  picture = h.picture;
+  luma_length = h.luma_length;
+  chroma_length = h.chroma_length;
+  luma = h.luma;
+  chroma = h.chroma;
+  order = h.order;
+}
 
 module _ {f : Filter} {i : Input} {g : Grid} {orders : List ℕ} (filters : List ℤ) {copy differences : ℕ} {taps : List ℤ} {output : ℕ}
     (is_input : PlanesGiven f i g orders) (is_numbers : Numbers f filters) (is_rooms : FilterRooms f i.layout.picture copy differences taps output) where

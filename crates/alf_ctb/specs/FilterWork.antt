@@ -1,12 +1,12 @@
 -- What the functions that filter a piece and a CTB are given, and what they leave. Assumes nothing.
-use Rattle.std.specs.Prelude.{◌≡◌, Bool, true, List, Option, ℕ, ◌+◌, ◌*◌, ◌/◌, ◌≤◌, ◌<◌, ℤ, pos, length, get_or}
+use Rattle.std.specs.Prelude.{◌≡◌, Bool, true, List, [], Option, ℕ, ◌+◌, ◌*◌, ◌/◌, ◌≤◌, ◌<◌, ℤ, pos, length, get_or}
 use Rattle.alf_spec.specs.declared.ClipCause.{ClipCause}
 use Rattle.alf_spec.specs.declared.Ctb.{Ctb}
 use Rattle.alf_spec.specs.declared.Grid.{Grid}
 use Rattle.alf_spec.specs.declared.Picture.{Picture}
 use Rattle.alf_spec.specs.declared.Sides.{Sides}
 use Rattle.alf_spec.specs.Lists.{painted}
-use Rattle.alf_spec.specs.Input.{given, Input}
+use Rattle.alf_spec.specs.Input.{layout_of, given, Input, input_of}
 use Rattle.alf_spec.specs.Geometry.{Side, Axis, sub_width, sub_height}
 use Rattle.alf_spec.specs.Boundary.{column_side, row_side}
 use Rattle.alf_spec.specs.Process.{at_index, output_plane}
@@ -24,6 +24,15 @@ use Rattle.alf_spec.specs.declared.Filter.{Filter}
 use Rattle.alf_spec.specs.declared.Filter.TheVariants.{Luma, Chroma, CrossComponent}
 use Rattle.alf_spec.specs.Filters.{operation_of}
 use Rattle.alf_ctb.specs.Filters.{column_ratio, row_ratio, walk_plane, sample_of, OwnFilter}
+
+-- an input of a picture and its planes alone: no table, no list, no output
+abbrev pub planes_input : Picture → List ℕ → List ℕ → Input
+planes_input p luma_samples chroma_samples =
+    input_of (layout_of p [] [] [] [] [] [] []) luma_samples chroma_samples [] [] [] [] [] [] 0
+
+-- that of this input's picture and planes
+abbrev pub planes_of : Input → Input
+planes_of i = planes_input i.layout.picture i.luma i.chroma
 
 -- an accepted picture, its planes as far as the filter is given them, and the tap order
 pub record PlanesGiven (f : Filter) (i : Input) (g : Grid) (orders : List ℕ) : Type 0 where

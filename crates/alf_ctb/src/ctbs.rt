@@ -5,9 +5,10 @@ ghost use Rattle.alf_taps.specs.Spread.{TapNumbers};
 ghost use Rattle.alf_ctb.specs.Filters.{walk_line};
 ghost use Rattle.alf_ctb.specs.FilterWork.{PlanesGiven, FilterRooms, Numbers, AxesFiltered, in_filtered};
 
+use crate::inputs::Planes;
 use crate::pieces::filter_piece;
 use alf_pieces::walks::{CtbAxes, first_piece, next_piece};
-use alf_spec::{Filter, FilterInput, Grid, Sides};
+use alf_spec::{Filter, Grid, Sides};
 
 // How far above a CTB's bottom the line lies at which its pieces end, in luma rows. For chroma they go on over it: no tap of the chroma
 // filter reads across its own line. What a filter does is chosen by a match on `Filter` here, in `pieces` and in `tables`: the kinds are
@@ -26,7 +27,7 @@ pub fn walk_line(filter: Filter) -> u32
 // three lists: they may be of any length from the limit up, which arrays in a struct could not, and a struct of lent lists is no plainer.
 pub fn filter_ctb(
     filter: Filter,
-    input: &FilterInput,
+    planes: &Planes,
     grid: Grid,
     sides: Sides,
     axes: &CtbAxes,
@@ -37,10 +38,10 @@ pub fn filter_ctb(
     taps: &mut [i16],
     output: &mut [u16],
 )
-    requires { let picture = input.now.layout.picture in (PlanesGiven filter input.now grid orders.now) × (Numbers filter filters.now)
+    requires { let picture = planes.now.layout.picture in (PlanesGiven filter planes.now grid orders.now) × (Numbers filter filters.now)
         × (FilterRooms filter picture (length copy.old) (length differences.old) taps.old (length output.old))
         × (AlongAxes axes.now) × (axes.now.columns.size ≡ picture.width) × (axes.now.rows.size ≡ picture.height) }
-    ensures { (AxesFiltered filter input.now sides axes.now filters.now (in_filtered filter input.now.layout.picture axes.now)
+    ensures { (AxesFiltered filter planes.now sides axes.now filters.now (in_filtered filter planes.now.layout.picture axes.now)
         output.old output.new) × (TapNumbers taps.new) }
 {
     let mut at = Some(first_piece(axes));
@@ -48,7 +49,7 @@ pub fn filter_ctb(
     while let Some(piece) = at {
         filter_piece(
             filter,
-            input,
+            planes,
             grid,
             sides,
             piece.columns,

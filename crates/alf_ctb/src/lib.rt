@@ -3,8 +3,10 @@
 #![tactic(auto)]
 
 mod ctbs;
+mod inputs;
 mod pieces;
 mod tables;
 
 pub use ctbs::{filter_ctb, walk_line};
+pub use inputs::Planes;
 pub use tables::{is_on, load};

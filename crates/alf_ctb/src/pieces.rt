@@ -4,15 +4,16 @@ ghost use Rattle.alf_pieces.specs.Pieces.{BlockPiece};
 ghost use Rattle.alf_taps.specs.Spread.{TapNumbers};
 ghost use Rattle.alf_ctb.specs.FilterWork.{PlanesGiven, FilterRooms, Numbers, PieceFiltered};
 
+use crate::inputs::Planes;
 use alf_math::grid::{sub_height, sub_width};
 use alf_pieces::pieces::{Piece, scaled};
-use alf_spec::{Filter, FilterInput, Grid, Sides};
+use alf_spec::{Filter, Grid, Sides};
 
 // The samples of a piece of the luma plane, or the chroma samples that lie in it, by the filter: those of every input in which a CTB has
 // these sides and this filter's numbers, and the piece is one of its pieces.
 pub fn filter_piece(
     filter: Filter,
-    input: &FilterInput,
+    planes: &Planes,
     grid: Grid,
     sides: Sides,
     columns: Piece,
@@ -24,13 +25,17 @@ pub fn filter_piece(
     taps: &mut [i16],
     output: &mut [u16],
 )
-    requires { let picture = input.now.layout.picture in (PlanesGiven filter input.now grid orders.now) × (Numbers filter filters.now)
+    requires { let picture = planes.now.layout.picture in (PlanesGiven filter planes.now grid orders.now) × (Numbers filter filters.now)
         × (FilterRooms filter picture (length copy.old) (length differences.old) taps.old (length output.old))
         × (BlockPiece picture.width columns) × (BlockPiece picture.height rows) }
-    ensures { (PieceFiltered filter input.now sides columns rows filters.now output.old output.new)
+    ensures { (PieceFiltered filter planes.now sides columns rows filters.now output.old output.new)
         × (TapNumbers taps.new) }
 {
-    let picture = input.layout.picture;
+    let Planes {
+        picture,
+        luma,
+        chroma,
+    } = *planes;
     match filter {
         Filter::Luma => {
             alf_luma::filter_piece(
@@ -39,7 +44,7 @@ pub fn filter_piece(
                 sides,
                 columns,
                 rows,
-                input.luma,
+                luma,
                 filters,
                 orders,
                 copy,
@@ -55,7 +60,7 @@ pub fn filter_piece(
                 sides,
                 scaled(columns, sub_width(picture)),
                 scaled(rows, sub_height(picture)),
-                input.chroma,
+                chroma,
                 filters,
                 copy,
                 taps,
@@ -70,8 +75,8 @@ pub fn filter_piece(
                 sides,
                 columns,
                 rows,
-                input.luma,
-                input.chroma,
+                luma,
+                chroma,
                 filters,
                 copy,
                 differences,

@@ -10,7 +10,7 @@ ghost use Rattle.alf_filter.specs.FilterTables.{TablesAccepted, TablesIn};
 ghost use Rattle.alf_filter.specs.FilteredCtbs.{is_marked, MarksOn, CtbFiltered, MarkedFiltered};
 
 use alf_classify::AREA;
-use alf_ctb::{filter_ctb, load, walk_line};
+use alf_ctb::{Planes, filter_ctb, load, walk_line};
 use alf_pieces::walks::CtbAxes;
 use alf_sides::sides_at;
 use alf_spec::{Filter, FilterInput, Grid};
@@ -53,7 +53,7 @@ fn filter_address(
     let axes = CtbAxes::through(&input.layout, grid, own_sides, walk_line(filter), k);
     filter_ctb(
         filter,
-        input,
+        &Planes::of(input),
         grid,
         own_sides,
         &axes,

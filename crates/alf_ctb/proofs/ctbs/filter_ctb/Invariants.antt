@@ -9,7 +9,7 @@ abbrev pub invariant-loop-at : goal.invariant-loop-at
 invariant-loop-at l = record {
   stands : Stands l.axes l.at;
   numbers : TapNumbers l.taps;
-  filtered : AxesFiltered l.filter l.input l.sides l.axes l.filters (passed_by l.filter l.input.layout.picture l.axes l.at)
+  filtered : AxesFiltered l.filter l.planes l.sides l.axes l.filters (passed_by l.filter l.planes.layout.picture l.axes l.at)
       l.initial.output l.output;
 }
 

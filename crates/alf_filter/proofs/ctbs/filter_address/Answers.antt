@@ -16,6 +16,7 @@ use Rattle.alf_pieces.proofs.CtbRegions.{ctb_passes_lem, ctb_fails}
 use Rattle.alf_sides.proofs.PlannedSides.{planned_sides}
 use Rattle.alf_params.proofs.LoadedFilters.{zeros}
 use Rattle.alf_ctb.specs.Filters.{walk_line}
+use Rattle.alf_ctb.proofs.PieceFilters.{planes_given}
 use Rattle.alf_ctb.proofs.Ratios.{walks}
 use Rattle.alf_filter.proofs.AcceptedFilters.{layout-accepted, same-picture, same_virtual_columns, same_virtual_rows, same-luma}
 use Rattle.alf_filter.proofs.AcceptedFilters.{same-chroma, same_tables, same-fixed}
@@ -47,8 +48,8 @@ filter_ctb-requires c =
     let picture = accepted.planes.picture in
     let begins = ctb_in_picture picture.grid c.args.k c.requires.1 in
     let sides = c.sides_at-own_sides.result in
-    rw (c.through-axes.ensures, c.walk_line.ensures, layout) (
-      accepted.planes,
+    rw (c.through-axes.ensures, c.walk_line.ensures, c.of.ensures, layout) (
+      planes_given accepted.planes,
       c.load.ensures.0,
       c.requires.5,
       (
@@ -68,7 +69,7 @@ returns c =
     let ctb : Ctb = record { column = k % g.columns; row = k / g.columns } in
     let picture = c.requires.0.planes.picture in
     let on = sym c.is_marked.ensures ∙ c.if-not-is_marked.false in
-    let done = rw (c.through-axes.ensures, c.walk_line.ensures, layout) at c.filter_ctb.ensures in (
+    let done = rw (c.through-axes.ensures, c.walk_line.ensures, c.of.ensures, layout) at c.filter_ctb.ensures in (
       (λ i of planned.
           let ok = layout-accepted f i of.accepted in
           let same = same-picture of in
