@@ -3,17 +3,19 @@
 #![tactic(auto)]
 
 use alf_spec::Fault;
+use std::io::AsBytes;
 use std::{fmt, io};
 
-// What was asked, and the number of the answer.
-pub fn print_outcome(rt: &impl Print, asked: &str, number: u8) -> io::Result<()> {
-    println!(rt; "{asked}: answer {number}")
+// What was asked, and the number of the answer. What was asked may be any bytes.
+pub fn print_outcome<T: AsBytes + Drop>(rt: &impl Print, asked: T, number: u8) -> io::Result<()> {
+    rt.write_all(asked.as_byte_slice())?;
+    println!(rt; ": answer {number}")
 }
 
 // What was asked of the isolation test, the number of its answer, and what it says.
-pub fn print_isolated(
+pub fn print_isolated<T: AsBytes + Drop>(
     rt: &impl Print,
-    asked: &str,
+    asked: T,
     number: u8,
     answer: Result<bool, Fault>,
 ) -> io::Result<()> {
@@ -22,7 +24,8 @@ pub fn print_isolated(
         Ok(false) => ", not isolated",
         Err(_) => "",
     };
-    println!(rt; "{asked}: answer {number}{says}")
+    rt.write_all(asked.as_byte_slice())?;
+    println!(rt; ": answer {number}{says}")
 }
 
 // A sample as a plane shows it, four characters wide.

@@ -12,6 +12,7 @@ use example_pictures::tables::{
     CTB_LIST, CTB_PARAMS, SLICE_PARAMS, fill_fixed_filters, fill_fixed_map,
 };
 use std::io;
+use std::io::AsBytes;
 
 // The picture with its boundary tables.
 fn layout() -> Layout<'static> {
@@ -64,9 +65,9 @@ fn chroma_input<'a>(bank: &'a [i16], luma: &'a [u16], chroma: &'a [u16]) -> Filt
 }
 
 // The class map of a picture, so many blocks a row.
-pub fn show_classes(
+pub fn show_classes<T: AsBytes + Drop>(
     rt: &impl Print,
-    text: &str,
+    text: T,
     layout: &Layout,
     luma: &[u16],
     map: &mut [u8],
