@@ -1,9 +1,9 @@
 -- Laws of the rules for clip positions. Assumes nothing.
 use Rattle.std.proofs.Common.{◌≡◌, refl, sym, ap, ◌∙◌, Bool, true, false, cond, List, [], ◌∷◌, Option, Some, None, arith, leb}
-use Rattle.std.proofs.Common.{ℕ, ◌+◌, ◌-◌, ◌*◌, ◌/◌, ◌%◌, ◌≤◌}
+use Rattle.std.proofs.Common.{ℕ, ◌+◌, ◌-◌, ◌*◌, ◌/◌, ◌%◌, ◌≤◌, ◌<◌}
 use Rattle.std.specs.List.{find}
 use Rattle.std.specs.Option.{option_map, option_or}
-use native.Mathlib.Nat.{div-mul-le_self, div-add-mod'}
+use native.Mathlib.Nat.{div-mul-le_self, div-add-mod', mod-lt}
 use borrow.Author.Tests.{leb-true, le-leb}
 use Rattle.alf_spec.specs.declared.Clip.{Clip}
 use Rattle.alf_spec.specs.declared.ClipCause.{ClipCause}
@@ -40,6 +40,11 @@ module _ {a : CtbAxis} {x start : ℕ} (h : InCtb a x) (e : start ≡ a.place * 
 
   pub in_ctb_lem : x % a.ctb ≡ x - start
   in_ctb_lem = omega (arith, start_is, div-add-mod' x a.ctb)
+
+  pub in_ctb-lt : x - start < a.ctb
+  in_ctb-lt =
+      let positive : 0 < a.ctb = omega (arith, h.low) in
+      omega (arith, in_ctb_lem, mod-lt x positive)
 
 -- ---- the first that a rule finds, as code has it
 

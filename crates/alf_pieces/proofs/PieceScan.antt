@@ -4,16 +4,28 @@ use mathlib.Core.Bool.{true, false, cond}
 use mathlib.Core.List.{List}
 use Rattle.std.specs.Prelude.{Option, Some, None, is_some}
 use Rattle.std.proofs.Math.Option.{Option as Found, some, none, get_or}
-use Prim.Native.Nat.{ℕ, suc, pred, ◌+◌, ◌-◌, ◌/◌, ◌≤◌, ◌<◌}
-use native.Mathlib.Nat.{mul-one, div-one}
+use Prim.Native.Nat.{ℕ, suc, pred, ◌+◌, ◌-◌, ◌*◌, ◌/◌, ◌≤◌, ◌<◌}
+use native.Mathlib.Nat.{mul-one, div-one, div-eq_of_lt-le}
 use native.Mathlib.Omega.{arith}
 use Rattle.alf_spec.specs.Geometry.{before, after}
 use Rattle.alf_spec.specs.Boundary.{clip, clip_position}
 use Rattle.alf_spec.specs.Padding.{is_none, lowest, limit}
 use Rattle.alf_boundary.specs.declared.clips.CtbAxis.{CtbAxis}
 use Rattle.alf_spec.specs.declared.Clip.{Clip}
-use Rattle.alf_boundary.specs.Clips.{clip_of, position_of, axis_along, sides_along}
+use Rattle.alf_boundary.specs.Clips.{clip_of, position_of, axis_along, sides_along, InCtb}
 use Rattle.alf_pieces.specs.Pieces.{limit_along, BlockAt, run_end, piece_end, piece_at}
+
+-- a position u of the CTB in which a block begins at x, where u does not lie before x
+pub in_ctb_lem : {a : CtbAxis} {x : ℕ} (u : ℕ) → BlockAt a x → x ≤ u → u < limit_along a → InCtb a u
+in_ctb_lem {a} u b low high =
+    let from : a.place * a.ctb ≤ u = omega (arith, b.from) in
+    record {
+      low = b.low;
+      high = b.high;
+      line = b.line;
+      small = omega (arith, b.size);
+      place = sym (div-eq_of_lt-le a.ctb from (omega arith));
+    }
 
 -- what reads are clamped to in the luma plane: the clip positions, or the plane's ends
 module _ (a : CtbAxis) (list : List ℕ) where
