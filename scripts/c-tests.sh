@@ -57,11 +57,11 @@ readme() {
         sed 's/^/    /' examples/luma.stdout | while IFS= read -r line; do grep -qxF -- "$line" README.md || { echo "not in README: $line"; exit 1; }; done
 }
 
-# nothing but the eight functions is exported, and nothing but the C library's memory functions is asked for
+# nothing but the eight functions is exported, and nothing is asked for but what fills memory and copies it
 symbols() {
     local expected="alf_bank_read alf_bank_write alf_chroma alf_classes alf_clip_causes alf_cross_component alf_isolated alf_luma"
     [[ "$(nm --defined-only -g target/staticlib/libalf_c.a | awk 'NF == 3 { print $3 }' | sort | tr '\n' ' ')" == "$expected " ]] &&
-        ! nm -u target/staticlib/libalf_c.a | awk 'NF == 2 { print $2 }' | grep -vxE 'mem(cpy|set|move|cmp)'
+        ! nm -u target/staticlib/libalf_c.a | awk 'NF == 2 { print $2 }' | grep -vxE 'mem(cpy|set)'
 }
 
 test_of "the header by itself, in C99 and C++11" header_alone
