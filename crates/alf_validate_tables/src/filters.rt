@@ -1,6 +1,6 @@
 // Cause 11: coefficients, clips and the fixed map.
 ghost use Rattle.std.specs.Prelude.{◌≡◌, true, ◌&&◌, ◌≤◌, ◌<◌, pos, length, get_or};
-ghost use Rattle.alf_spec.specs.Lists.{implies, every_from};
+ghost use Rattle.alf_spec.specs.Lists.{implies, all_below, every_from};
 ghost use Rattle.alf_spec.specs.Input.{given};
 ghost use Rattle.alf_spec.specs.Filters.{operation_of};
 ghost use Rattle.alf_spec.specs.Faults.{bit_depth_valid, is_clip, clip_valid, bank_number_valid, bank_valid, fixed_valid};
@@ -8,6 +8,9 @@ ghost use Rattle.alf_spec.specs.Faults.{bit_depth_valid, is_clip, clip_valid, ba
 use crate::entries::{coeff_valid, coefficients_valid};
 use alf_spec::{Filter, FilterInput};
 use alf_validate_layout::entries::bytes_below;
+
+// How many numbers a bank has: eight APSs of 752.
+const BANK: usize = 8 * 752;
 
 // Whether number n of an APS is a clip.
 #[tactic(auto, unfolding(alf_spec::specs::Faults::is_clip))]
@@ -51,17 +54,41 @@ fn number_at(bank: &[i16], k: usize) -> i16
     bank[k]
 }
 
-// Whether each number of the whole bank is in its range, which its place decides too. A `for` over the places and no `fold`: what a program
-// is built with makes vector code of this loop, and of a chain only in the static library.
+// Whether each of the first `count` numbers is in its range. A count of 16 bits holds a whole bank, and shows that a place has 16 bits: so
+// the remainder in it is found for eight places at once, in every build.
+fn first_valid(bit_depth: u8, bank: &[i16], count: u16) -> bool
+    requires { (bit_depth ≤ 12) × (count ≤ length bank.now) }
+    ensures { result ≡ all_below count (λ k. bank_number_valid bit_depth k (get_or bank.now k (pos 0))) }
+{
+    let mut good = true;
+    for k in 0..count {
+        let place = k as usize;
+        good = good & bank_number_valid(bit_depth, place, number_at(bank, place));
+    }
+    good
+}
+
+// Whether each number is, where so many at the front have been tested. A bank has none behind these; a longer list has.
+fn rest_valid(bit_depth: u8, bank: &[i16], tested: usize, first: bool) -> bool
+    requires { (bit_depth ≤ 12) × (tested ≤ length bank.now)
+        × (first ≡ all_below tested (λ k. bank_number_valid bit_depth k (get_or bank.now k (pos 0)))) }
+    ensures { result ≡ all_below (length bank.now) (λ k. bank_number_valid bit_depth k (get_or bank.now k (pos 0))) }
+{
+    let mut good = first;
+    for k in tested..bank.len() {
+        good = good & bank_number_valid(bit_depth, k, number_at(bank, k));
+    }
+    good
+}
+
+// Whether each number of the whole bank is in its range, which its place decides too.
 pub fn bank_valid(bit_depth: u8, bank: &[i16]) -> bool
     requires { bit_depth ≤ 12 }
     ensures { result ≡ every_from 0 (bank_number_valid bit_depth) bank.now }
 {
-    let mut good = true;
-    for k in 0..bank.len() {
-        good = good & bank_number_valid(bit_depth, k, number_at(bank, k));
-    }
-    good
+    let count = bank.len().min(BANK);
+    let first = first_valid(bit_depth, bank, count as u16);
+    rest_valid(bit_depth, bank, count, first)
 }
 
 // Whether the fixed coefficients and the fixed map are in their ranges.

@@ -1,22 +1,8 @@
--- The loop tests every number with its place. Assumes nothing.
-use Rattle.std.proofs.Common.{pos, sym, ap, ◌∙◌, arith}
-use mir.Syntax.{w16}
-use Rattle.alf_math.proofs.Magnitude.{returned}
+-- A test of every place is one of every number. Assumes nothing.
+use Rattle.std.proofs.Common.{pos, sym, ◌∙◌}
 use Rattle.alf_spec.specs.Faults.{bank_number_valid}
-use Rattle.alf_spec.proofs.Scans.{every-place, sofar_none, sofar_more, sofar_done}
+use Rattle.alf_spec.proofs.Scans.{every-place}
 use Rattle.alf_validate_tables.proofs.filters.bank_valid.Goals as goal
 
-pub loop-k-init : goal.loop-k-init
-loop-k-init c = sofar_none _ _
-
-pub loop-k-preserved : goal.loop-k-preserved
-loop-k-preserved c =
-    let number = c.number_at in
-    sofar_more c.loop-k.invariant (omega arith)
-    (c.bank_number_valid-good.ensures
-    ∙ ap (bank_number_valid c.args.bit_depth c.loop-k.k) (returned w16 number.type_inv number.ensures))
-
 pub returns : goal.returns
-returns c =
-    sofar_done c.loop-k.invariant (omega arith)
-    ∙ sym (every-place (pos 0) (bank_number_valid c.args.bit_depth) c.args.bank.now)
+returns c = c.rest_valid.ensures ∙ sym (every-place (pos 0) (bank_number_valid c.args.bit_depth) c.args.bank.now)
